@@ -1,7 +1,5 @@
-pub mod Stores
 pub mod Few
 pub mod Joins
 pub mod Laws
 pub mod Keeps
 pub mod Nested
-pub mod Places

@@ -5,6 +5,7 @@ use Rattle.rows.specs.Places.{PLACES}
 use Rattle.rows.specs.Node.{Text}
 use Rattle.rows.specs.Rows.{sizes, row, rows, no_text}
 use Rattle.acts.specs.Act.{St, Out, Act, Asking, step_alone}
+use Rattle.acts.specs.Kinds.{number_of}
 use Rattle.acts.specs.declared.Cursor.{Cursor}
 use Rattle.acts.specs.declared.store.Row.{Row}
 
@@ -50,7 +51,7 @@ pub record LaidAsking {A : Type 0} (a : Asking A) (s : List ℕ) (c : Cursor) (s
 
 -- the nine places of a row as it is written at first
 abbrev pub cells_of : Row → List ℕ
-cells_of r = row r.kind r.number r.number2 0 r.after (text r.origin r.start r.size) r.width
+cells_of r = row (number_of r.kind) r.number r.second_number 0 r.after (text r.origin r.start r.size) r.width
 
 -- a row is written, as one without parts
 pub record Written (kind n k : ℕ) (t : Text) (w : ℕ) (s : List ℕ) (c : Cursor) (s' : List ℕ) (c' : Cursor) : Type 0 where

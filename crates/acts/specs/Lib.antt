@@ -1,3 +1,4 @@
 pub mod Act
+pub mod Kinds
 pub mod Laid
-pub mod Place
+pub mod Spelling

@@ -12,7 +12,7 @@ ghost use Rattle.acts.specs.Laid.{cursor};
 
 // The position in the source, how many comments are placed, the next row, and the next group number. In this order what rarely changes is
 // copied at once.
-#[derive(Clone, Copy)]
+#[derive(Clone, Copy, Debug, PartialEq, Eq)]
 pub struct Cursor {
     pub pos: u32,
     pub placed: u32,
@@ -24,22 +24,12 @@ pub struct Cursor {
 pub fn move_to(c: Cursor, pos: u32) -> Cursor
     ensures { result ≡ cursor c.row c.number pos c.placed }
 {
-    Cursor {
-        row: c.row,
-        number: c.number,
-        pos: pos,
-        placed: c.placed,
-    }
+    Cursor { pos, ..c }
 }
 
 // How many comments are placed, set anew.
 pub fn with_placed(c: Cursor, placed: u32) -> Cursor
     ensures { result ≡ cursor c.row c.number c.pos placed }
 {
-    Cursor {
-        row: c.row,
-        number: c.number,
-        pos: c.pos,
-        placed: placed,
-    }
+    Cursor { placed, ..c }
 }

@@ -1,6 +1,5 @@
 -- The syntax tree of src/ast.rs, as far as fmt.rs reads it. A `Meta` is its node with its span, where that span is read.
-use Rattle.std.specs.Prelude.{ℕ, List}
-use Rattle.std.proofs.Math.Option.{Option}
+use Rattle.std.specs.Prelude.{ℕ, List, Option}
 
 pub record Span : Type 0 where
   pub start : ℕ

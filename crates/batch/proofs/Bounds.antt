@@ -2,7 +2,7 @@
 -- Assumes nothing.
 use mathlib.Core.Path.{◌≡◌, refl, sym, ap, ◌∙◌}
 use mathlib.Core.Bool.{Bool, true, false}
-use mathlib.Core.Option.{Option, none, some}
+use Rattle.std.specs.Prelude.{Option, None, Some}
 use mathlib.Core.List.{List, [], ◌∷◌}
 use Prim.Native.Nat.{ℕ, ◌*◌, ◌≤◌, ◌<◌, ◌^◌}
 use native.Mathlib.Omega.{arith}
@@ -37,12 +37,12 @@ pub record Fine (r : Refusal) : Type 0 where
   pub place : r.place < 2 ^ 32
 
 abbrev Fines : Option Refusal → Type 0
-Fines o = (r : Refusal) → o ≡ some r → Fine r
+Fines o = (r : Refusal) → o ≡ Some r → Fine r
 
-fine_none : Fines none
+fine_none : Fines None
 fine_none r e = absurd (never r (sym e))
 
-fine_at : (n p : ℕ) → (n ≡ 10 → ⊥) → p < 2 ^ 32 → Fines (some (record { number = n; place = p }))
+fine_at : (n p : ℕ) → (n ≡ 10 → ⊥) → p < 2 ^ 32 → Fines (Some (record { number = n; place = p }))
 fine_at n p h k r e =
     let f : ◌≡◌ {A = Refusal} (record { number = n; place = p }) r = cc in
     let g = ap (λ (x : Refusal). x.number) f in
@@ -54,9 +54,9 @@ fine_if true n p h k = fine_at n p h k
 fine_if false n p h k = fine_none
 
 -- one line, and the others where it lets pass
-fine_or : (o p : Option Refusal) → Fines o → (o ≡ none → Fines p) → Fines (or_else o p)
-fine_or (some q) p f g = f
-fine_or none p f g = g refl
+fine_or : (o p : Option Refusal) → Fines o → (o ≡ None → Fines p) → Fines (or_else o p)
+fine_or (Some q) p f g = f
+fine_or None p f g = g refl
 
 none_ten : (n : ℕ) → is_one_of n reader_numbers ≡ true → n ≡ 10 → ⊥
 none_ten n h e =
@@ -73,7 +73,7 @@ module _ (s b : List ℕ) where
       go (bad n p) e = fine_at n p (none_ten n (read_numbers s b n p e)) (let h = read_places s b n p e in omega arith)
 
   module _ (c : FileChoice) where
-    rows_few : read_refusal (read_all s b) ≡ none → rows_due s b c ≤ MAX_ROWS
+    rows_few : read_refusal (read_all s b) ≡ None → rows_due s b c ≤ MAX_ROWS
     rows_few h = omega (arith, (closed_within (stood s b h).stood (keeps_waiting c.mode)).rows)
 
     early_lines : Fines (first (file_before_text s b c file_rows file_marks))
@@ -87,7 +87,7 @@ module _ (s b : List ℕ) where
         fine_or (refuse_if (ltb file_rows (rows_due s b c)) 8 (rows_due s b c)) _
         (fine_if (ltb file_rows (rows_due s b c)) 8 (rows_due s b c) (λ e. omega arith) (let k = rows_few h in omega arith))
         (λ k.
-        fine_or (refuse_if (ltb file_marks (marks_due s b c)) 9 (marks_due s b c)) none
+        fine_or (refuse_if (ltb file_marks (marks_due s b c)) 9 (marks_due s b c)) None
         (fine_if (ltb file_marks (marks_due s b c)) 9 (marks_due s b c) (λ e. omega arith) (let l = marks_few s b c h in omega arith))
         (λ l. fine_none)))))
 
@@ -100,8 +100,8 @@ module _ (c : FileChoice) where
   text_limited x = go (early c x) refl
     where
       go : (o : Option Refusal) → early c x ≡ o → length (text_of c x) ≤ FILE_TEXT
-      go (some r) e = omega (arith, ap length (no_text c x r e))
-      go none e =
+      go (Some r) e = omega (arith, ap length (no_text c x r e))
+      go None e =
           let s = x.source in
           let b = x.image in
           let h = file_text_limited s b c (passes_left (file_before_marks s b c file_rows) (file_marks_line s b c file_marks) e) in
@@ -120,11 +120,11 @@ module _ (c : FileChoice) where
   row_text x a p n h = go (early c x) refl
     where
       go : (o : Option Refusal) → early c x ≡ o → n ≡ length (text_of c x)
-      go (some r) e =
+      go (Some r) e =
           let g = ap row_of (single_refused c x r e) in
           let q : n ≡ 0 = cc in
           q ∙ sym (ap length (no_text c x r e))
-      go none e =
+      go None e =
           let g = ap row_of (single_accepted c x e) in
           let q : n ≡ needed c x = cc in
           q ∙ sym (ap length (all_text c x e))
@@ -133,11 +133,11 @@ module _ (c : FileChoice) where
   row_small x w h = record { place = go (early c x) refl; bytes = let k = text_limited x in omega (arith, row_text x w.number w.place w.bytes h) }
     where
       go : (o : Option Refusal) → early c x ≡ o → w.place < 2 ^ 32
-      go (some r) e =
+      go (Some r) e =
           let g = ap row_of (single_refused c x r e) in
           let q : w.place ≡ r.place = cc in
           omega (arith, (early_fine c x r e).place)
-      go none e =
+      go None e =
           let g = ap row_of (single_accepted c x e) in
           let q : w.place ≡ 0 = cc in
           omega arith

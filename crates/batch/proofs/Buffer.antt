@@ -2,7 +2,7 @@
 -- Assumes nothing.
 use mathlib.Core.Path.{◌≡◌, refl, sym, ap, ◌∙◌}
 use mathlib.Core.Bool.{Bool, true, false}
-use mathlib.Core.Option.{none, some}
+use Rattle.std.specs.Prelude.{None, Some}
 use mathlib.Core.List.{List, [], ◌∷◌}
 use Prim.Native.Nat.{ℕ, zero, suc, ◌+◌, ◌-◌, ◌≤◌, ◌<◌}
 use native.Mathlib.Nat.{zero-add}
@@ -15,8 +15,8 @@ use Rattle.image.specs.Bytes.{be32}
 use Rattle.image.specs.Read.{Read, got, bad, bind, read_refusal}
 use Rattle.batch.specs.Batch.{MAX_SAVES, Save, frame_end, save_at, saves_from, all_saves, saves_by}
 use Rattle.batch.specs.Whole.{frames_by, Framed}
-use Rattle.batch.specs.declared.frames.Frames.{Frames}
-use Rattle.batch.specs.declared.frames.Frames.TheVariants as frames
+use Rattle.refusals.specs.Refusals.{Refusal}
+use Rattle.refusals.specs.Answers.{Answer, refused, accepted}
 
 -- a file more in front
 abbrev one_more_lem : Save → Read (List Save) → Read (List Save)
@@ -42,9 +42,9 @@ module _ (f : List ℕ) where
   goes_on n at h k = rw (lt-ltb at (length f) h, le-leb (frame_end f at) (length f) k)
 
   -- ---- counted: with those before, going on from here gives the whole answer
-  abbrev frames_after : ℕ → Read (List Save) → Frames
-  frames_after k (got xs end) = frames.Whole (k + length xs)
-  frames_after k (bad n p) = frames.Cut p
+  abbrev frames_after : ℕ → Read (List Save) → Answer ℕ
+  frames_after k (got xs end) = accepted (k + length xs)
+  frames_after k (bad n p) = refused (record { number = n; place = p })
 
   pub record Passed (at files : ℕ) : Type 0 where
     pub inside : at ≤ length f
@@ -55,7 +55,7 @@ module _ (f : List ℕ) where
   passed_none = record { inside = omega arith; few = omega arith; same = go (all_saves f) }
     where
       go : (r : Read (List Save)) → frames_after 0 r ≡ frames_by r
-      go (got xs end) = ap frames.Whole (zero-add (length xs))
+      go (got xs end) = ap (λ (n : ℕ). accepted n) (zero-add (length xs))
       go (bad n p) = refl
 
   module _ (at files : ℕ) (p : Passed at files) where
@@ -71,22 +71,22 @@ module _ (f : List ℕ) where
         }
       where
         joins : (r : Read (List Save)) → frames_after files (one_more_lem (save_at f at) r) ≡ frames_after (files + 1) r
-        joins (got xs end) = let e : files + suc (length xs) ≡ files + 1 + length xs = omega arith in ap frames.Whole e
+        joins (got xs end) = let e : files + suc (length xs) ≡ files + 1 + length xs = omega arith in ap accepted e
         joins (bad n q) = refl
 
-    pub passed_many : at < length f → files ≡ MAX_SAVES → frames.Cut at ≡ frames_by (all_saves f)
+    pub passed_many : at < length f → files ≡ MAX_SAVES → refused (record { number = 18; place = at }) ≡ frames_by (all_saves f)
     passed_many h e =
         let z : MAX_SAVES - files ≡ 0 = omega arith in
         sym (ap (frames_after files) (ap (λ (n : ℕ). saves_from f n at) z ∙ too_many at h)) ∙ p.same
 
-    pub passed_cut : at < length f → files < MAX_SAVES → length f < frame_end f at → frames.Cut at ≡ frames_by (all_saves f)
+    pub passed_cut : at < length f → files < MAX_SAVES → length f < frame_end f at → refused (record { number = 18; place = at }) ≡ frames_by (all_saves f)
     passed_cut h l k =
         sym (ap (frames_after files) (ap (λ (n : ℕ). saves_from f n at) (one_more MAX_SAVES files l) ∙ cut_off (MAX_SAVES - (files + 1)) at h k)) ∙ p.same
 
-    pub passed_all : length f ≤ at → frames.Whole files ≡ frames_by (all_saves f)
+    pub passed_all : length f ≤ at → accepted files ≡ frames_by (all_saves f)
     passed_all h =
         let e : files ≡ files + 0 = omega arith in
-        ap frames.Whole e ∙ sym (ap (frames_after files) (no_more (MAX_SAVES - files) at h)) ∙ p.same
+        ap accepted e ∙ sym (ap (frames_after files) (no_more (MAX_SAVES - files) at h)) ∙ p.same
 
   -- ---- the files from `at` on, where none is cut off
   pub data Files : ℕ → List Save → Type 0 where
@@ -113,15 +113,15 @@ module _ (f : List ℕ) where
     pub files : Files at (saves_by r)
     pub few : length (saves_by r) ≤ n
 
-  listed_more : (n at : ℕ) (r : Read (List Save)) → at < length f → frame_end f at ≤ length f → (read_refusal r ≡ none → Listed n (frame_end f at) r)
-      → read_refusal (one_more_lem (save_at f at) r) ≡ none
+  listed_more : (n at : ℕ) (r : Read (List Save)) → at < length f → frame_end f at ≤ length f → (read_refusal r ≡ None → Listed n (frame_end f at) r)
+      → read_refusal (one_more_lem (save_at f at) r) ≡ None
       → Listed (suc n) at (one_more_lem (save_at f at) r)
   listed_more n at (got xs end) h k later e = let l = later refl in record { files = more h k l.files; few = omega (arith, l.few) }
   listed_more n at (bad m q) h k later e = let z : ◌≡◌ {A = ℕ} 0 1 = cc in absurd (omega arith)
 
   listed_by : (n at : ℕ) (t : Bool) → ltb at (length f) ≡ t → (u : Bool) → leb (frame_end f at) (length f) ≡ u
-      → (read_refusal (saves_from f n (frame_end f at)) ≡ none → Listed n (frame_end f at) (saves_from f n (frame_end f at)))
-      → read_refusal (saves_from f (suc n) at) ≡ none
+      → (read_refusal (saves_from f n (frame_end f at)) ≡ None → Listed n (frame_end f at) (saves_from f n (frame_end f at)))
+      → read_refusal (saves_from f (suc n) at) ≡ None
       → Listed (suc n) at (saves_from f (suc n) at)
   listed_by n at false p u q later e =
       rw (no_more (suc n) at (ltb-false at (length f) p)) (record { files = done (ltb-false at (length f) p); few = omega arith })
@@ -134,11 +134,11 @@ module _ (f : List ℕ) where
       let k = leb-true (frame_end f at) (length f) q in
       rw (goes_on n at h k) (listed_more n at (saves_from f n (frame_end f at)) h k later (rw (goes_on n at h k) at e))
 
-  listed_none : (at : ℕ) (t : Bool) → ltb at (length f) ≡ t → read_refusal (saves_from f 0 at) ≡ none → Listed 0 at (saves_from f 0 at)
+  listed_none : (at : ℕ) (t : Bool) → ltb at (length f) ≡ t → read_refusal (saves_from f 0 at) ≡ None → Listed 0 at (saves_from f 0 at)
   listed_none at false p e = rw (no_more 0 at (ltb-false at (length f) p)) (record { files = done (ltb-false at (length f) p); few = omega arith })
   listed_none at true p e = let g = rw (too_many at (ltb-true at (length f) p)) at e in let z : ◌≡◌ {A = ℕ} 0 1 = cc in absurd (omega arith)
 
-  pub listed : (n at : ℕ) → read_refusal (saves_from f n at) ≡ none → Listed n at (saves_from f n at)
+  pub listed : (n at : ℕ) → read_refusal (saves_from f n at) ≡ None → Listed n at (saves_from f n at)
   listed zero at e = listed_none at (ltb at (length f)) refl e
   listed (suc n) at e = listed_by n at (ltb at (length f)) refl (leb (frame_end f at) (length f)) refl (listed n (frame_end f at)) e
 
@@ -170,25 +170,18 @@ module _ (f : List ℕ) where
   cut_number (suc n) at = cut_by n at (ltb at (length f)) refl (leb (frame_end f at) (length f)) refl (cut_number n (frame_end f at))
 
 -- ---- what the code's count says
-framed_by : (f : List ℕ) (r : Read (List Save)) → all_saves f ≡ r → (files : ℕ) → frames.Whole files ≡ frames_by r → Framed f files
+framed_by : (f : List ℕ) (r : Read (List Save)) → all_saves f ≡ r → (files : ℕ) → accepted files ≡ frames_by r → Framed f files
 framed_by f (got xs end) e files h =
     let g : files ≡ length xs = cc in
     record { passes = ap read_refusal e; count = g ∙ sym (ap (λ (r : Read (List Save)). length (saves_by r)) e) }
-framed_by f (bad n p) e files h = let z : ◌≡◌ {A = ℕ} 0 1 = cc in absurd (omega arith)
+framed_by f (bad n p) e files h = absurd (cc)
 
-pub framed : (f : List ℕ) (files : ℕ) → frames.Whole files ≡ frames_by (all_saves f) → Framed f files
+pub framed : (f : List ℕ) (files : ℕ) → accepted files ≡ frames_by (all_saves f) → Framed f files
 framed f files h = framed_by f (all_saves f) refl files h
 
-cut_by_count : (f : List ℕ) (r : Read (List Save)) → all_saves f ≡ r → (at : ℕ) → frames.Cut at ≡ frames_by r
-    → read_refusal r ≡ some (record { number = 18; place = at })
-cut_by_count f (got xs end) e at h = let z : ◌≡◌ {A = ℕ} 0 1 = cc in absurd (omega arith)
-cut_by_count f (bad n p) e at h =
-    let g : at ≡ p = cc in
-    let k : n ≡ 18 = cut_number f MAX_SAVES 0 n p e in
-    rw (g, k)
-
-pub cut_refuses : (f : List ℕ) (at : ℕ) → frames.Cut at ≡ frames_by (all_saves f) → read_refusal (all_saves f) ≡ some (record { number = 18; place = at })
-cut_refuses f at h = cut_by_count f (all_saves f) refl at h
+pub cut_refuses : (x : Read (List Save)) (r : Refusal) → refused r ≡ frames_by x → read_refusal x ≡ Some r
+cut_refuses (got xs end) r h = absurd (cc)
+cut_refuses (bad n p) r h = let g : r ≡ record { number = n; place = p } = cc in ap Some (sym g)
 
 -- ---- the code's test of a frame's end
 module _ (f : List ℕ) (at : ℕ) (inside : at ≤ length f) where

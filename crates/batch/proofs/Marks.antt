@@ -2,7 +2,7 @@
 -- Assumes nothing.
 use mathlib.Core.Path.{◌≡◌, refl, sym}
 use mathlib.Core.Bool.{false, ◌||◌}
-use mathlib.Core.Option.{none}
+use Rattle.std.specs.Prelude.{None}
 use mathlib.Core.List.{List, [], ◌++◌}
 use Prim.Native.Nat.{ℕ, ◌+◌, ◌≤◌, ◌<◌, max}
 use native.Mathlib.Decide.{dec_lt}
@@ -133,7 +133,7 @@ module _ (s : List ℕ) where
           (nodes_few ns (i + size n) (r + size n) (holds_right s i (size n) (rows_of n r) (rows ns (r + size n)) (length_rows_of n r) h)
           (λ x g. (neither (names x n) (names_in x ns) (u x g)).1))
 
-pub marks_few : (s b : List ℕ) (c : FileChoice) → read_refusal (read_all s b) ≡ none → marks_due s b c ≤ MAX_NUMBER
+pub marks_few : (s b : List ℕ) (c : FileChoice) → read_refusal (read_all s b) ≡ None → marks_due s b c ≤ MAX_NUMBER
 marks_few s b c h =
     let l = rows (built s b c).nodes 0 in
     let keeps = keeps_waiting c.mode in

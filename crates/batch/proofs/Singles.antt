@@ -1,7 +1,7 @@
 -- The table and the texts of a batch are those of single calls with output enough.
 -- Assumes nothing.
 use mathlib.Core.Path.{◌≡◌, refl, sym, ap, ap₂, ◌∙◌}
-use mathlib.Core.Option.{Option, none, some}
+use Rattle.std.specs.Prelude.{Option, None, Some}
 use mathlib.Core.List.{List, [], ◌∷◌, ◌++◌, map}
 use Prim.Native.Nat.{ℕ}
 use lib.Dec.{ltb}
@@ -32,10 +32,10 @@ module _ (c : FileChoice) where
     wrote = ap₂ wrote_by answered left ∙ go (early c m.file) refl
       where
         go : (o : Option Refusal) → early c m.file ≡ o → wrote_by (single c m.file) (write_front (text_of c m.file) m.out) ≡ text_of c m.file
-        go (some r) e =
+        go (Some r) e =
             ap (λ (a : Answer FileResult). wrote_by a (write_front (text_of c m.file) m.out)) (single_refused c m.file r e)
             ∙ sym (no_text c m.file r e)
-        go none e =
+        go None e =
             ap (λ (a : Answer FileResult). wrote_by a (write_front (text_of c m.file) m.out)) (single_accepted c m.file e)
             ∙ take_front (needed c m.file) (text_of c m.file) m.out (sym (ap length (all_text c m.file e)))
 

@@ -2,7 +2,7 @@
 -- Assumes nothing.
 use mathlib.Core.Path.{◌≡◌, refl, sym, ap, subst₂, ◌∙◌}
 use mathlib.Core.Bool.{Bool, true, false}
-use mathlib.Core.Option.{Option, none, some}
+use Rattle.std.specs.Prelude.{Option, None, Some, Result, Ok, Err}
 use mathlib.Core.List.{List, [], ◌∷◌}
 use Prim.Native.Nat.{ℕ, ◌+◌, ◌-◌, ◌*◌, ◌≤◌, ◌<◌}
 use native.Mathlib.Omega.{arith}
@@ -13,16 +13,18 @@ use Rattle.refusals.specs.Refusals.{Refusal, first, refuse_if, unless}
 use Rattle.refusals.specs.Answers.{accepted, answer_by}
 use Rattle.image.specs.Read.{read_refusal}
 use Rattle.image.specs.Bytes.{be32}
-use Rattle.rows.specs.declared.units.Bytes.{Bytes}
 use Rattle.cut_rule.specs.Run.{write_front}
 use Rattle.whole_run.specs.File.{file_answer}
 use Rattle.whole_run.specs.Built.{FileChoice}
 use Rattle.file.specs.Whole.{formatted_answer, Formats}
-use Rattle.file.specs.declared.Formatted.{Formatted}
-use Rattle.file.specs.declared.Formatted.TheVariants as file
+use Rattle.file.specs.declared.Text.{Text}
+use Rattle.refusals.specs.Reasons.{number_of, refusal as refusal_lem}
+use Rattle.refusals.specs.declared.Refused.{Refused}
+use Rattle.refusals.specs.declared.Reason.{Reason}
+use Rattle.refusals.specs.declared.Reason.TheVariants as reason
 use Rattle.batch.specs.Batch.{MAX_SAVES, frame_end, save_at, all_saves, saves_by, row_of, single, table_due, texts_due, batch_refusal, batch_result}
 use Rattle.batch.specs.Whole.{text_of, Framed, Batches, Saved, Room, Written}
-use Rattle.batch.specs.declared.Batch.TheVariants as answer
+use Rattle.batch.specs.declared.Batch.{Batch}
 use Rattle.batch.proofs.Buffer.{listed}
 use Rattle.batch.proofs.Rooms.{answer_roomy, output_roomy, bare_text, bare_ten, bare_other}
 use Rattle.batch.proofs.Bounds.{early_fine}
@@ -30,7 +32,7 @@ use Rattle.batch.proofs.Texts.{table_size}
 
 -- ---- one file: the parts of the buffer are its source and its image
 module _ (f : List ℕ) (at image end : ℕ) (i : image ≡ at + 8 + be32 f at) (e : end ≡ frame_end f at) (c : FileChoice)
-    (out : List ℕ) (r : Formatted) (out2 : List ℕ)
+    (out : List ℕ) (r : Result Text Refused) (out2 : List ℕ)
     (h : Formats (take (image - (at + 8)) (drop (at + 8) f)) (take (end - image) (drop image f)) c out r out2) where
   formats : Formats (save_at f at).source (save_at f at).image c out r out2
   formats = subst₂ (λ (k l : ℕ). Formats (take (k - (at + 8)) (drop (at + 8) f)) (take (l - k) (drop k f)) c out r out2) i e h
@@ -40,16 +42,16 @@ module _ (f : List ℕ) (at image end : ℕ) (i : image ≡ at + 8 + be32 f at) 
     answered : formatted_answer r ≡ file_answer (save_at f at).source (save_at f at).image c 0
     answered = formats.answer ∙ ap (file_answer (save_at f at).source (save_at f at).image c) bare
 
-    pub size_text : (bytes : Bytes) (l k m : ℕ) → r ≡ file.Text bytes l k m → bytes.0 ≡ length (text_of c (save_at f at))
-    size_text bytes l k m q = bare_text c (save_at f at) _ (ap formatted_answer (sym q) ∙ answered)
+    pub size_text : (t : Text) → r ≡ Ok t → t.bytes.0 ≡ length (text_of c (save_at f at))
+    size_text t q = bare_text c (save_at f at) _ (ap formatted_answer (sym q) ∙ answered)
 
-    pub size_ten : (n p : ℕ) → r ≡ file.Refused n p → n ≡ 10 → p ≡ length (text_of c (save_at f at))
-    size_ten n p q t =
-        bare_ten c (save_at f at) (λ o g. (early_fine c (save_at f at) o g).not_ten) p
-        (ap (λ (k : ℕ). formatted_answer (file.Refused k p)) (sym t) ∙ ap formatted_answer (sym q) ∙ answered)
+    pub size_ten : (w : Refused) → r ≡ Err w → w.reason ≡ reason.BytesNeeded → w.place ≡ length (text_of c (save_at f at))
+    size_ten w q t =
+        bare_ten c (save_at f at) (λ o g. (early_fine c (save_at f at) o g).not_ten) w.place
+        (ap (λ (x : Reason). formatted_answer (Err (record { reason = x; place = w.place }))) (sym t) ∙ ap formatted_answer (sym q) ∙ answered)
 
-    pub size_other : (n p : ℕ) → r ≡ file.Refused n p → (n ≡ 10 → ⊥) → 0 ≡ length (text_of c (save_at f at))
-    size_other n p q t = bare_other c (save_at f at) n p t (ap formatted_answer (sym q) ∙ answered)
+    pub size_other : (w : Refused) → r ≡ Err w → (number_of w.reason ≡ 10 → ⊥) → 0 ≡ length (text_of c (save_at f at))
+    size_other w q t = bare_other c (save_at f at) (number_of w.reason) w.place t (ap formatted_answer (sym q) ∙ answered)
 
   -- with room for its text
   module _ (fits : length (text_of c (save_at f at)) ≤ length out) where
@@ -59,12 +61,12 @@ module _ (f : List ℕ) (at image end : ℕ) (i : image ≡ at + 8 + be32 f at) 
     left : out2 ≡ write_front (text_of c (save_at f at)) out
     left = formats.output_left_of ∙ output_roomy c (save_at f at) out fits
 
-    pub saved_text : (bytes : Bytes) (l k m : ℕ) → r ≡ file.Text bytes l k m
-        → Saved c (save_at f at) out (record { number = 0; place = 0; bytes = bytes.0 }) out2
-    saved_text bytes l k m q = record { row = ap (λ (z : Formatted). row_of (formatted_answer z)) (sym q) ∙ row_same; text_left = left }
+    pub saved_text : (t : Text) → r ≡ Ok t → Saved c (save_at f at) out (record { number = 0; place = 0; bytes = t.bytes.0 }) out2
+    saved_text t q = record { row = ap (λ (z : Result Text Refused). row_of (formatted_answer z)) (sym q) ∙ row_same; text_left = left }
 
-    pub saved_refused : (n p : ℕ) → r ≡ file.Refused n p → Saved c (save_at f at) out (record { number = n; place = p; bytes = 0 }) out2
-    saved_refused n p q = record { row = ap (λ (z : Formatted). row_of (formatted_answer z)) (sym q) ∙ row_same; text_left = left }
+    pub saved_refused : (w : Refused) → r ≡ Err w
+        → Saved c (save_at f at) out (record { number = number_of w.reason; place = w.place; bytes = 0 }) out2
+    saved_refused w q = record { row = ap (λ (z : Result Text Refused). row_of (formatted_answer z)) (sym q) ∙ row_same; text_left = left }
 
 -- ---- the batch
 pub files_few : (f : List ℕ) (k : ℕ) → Framed f k → k ≤ MAX_SAVES
@@ -74,8 +76,8 @@ module _ (f : List ℕ) (c : FileChoice) (table out : List ℕ) where
   abbrev refusal : Option Refusal
   refusal = batch_refusal c f (length table) (length out)
 
-  refuses : (n p : ℕ) → refusal ≡ some (record { number = n; place = p }) → Batches f c table out (answer.Refused n p) table out
-  refuses n p e =
+  refuses : (r : Refused) → refusal ≡ Some (refusal_lem r) → Batches f c table out (Err r) table out
+  refuses r e =
       record {
         answer = sym (ap (λ (o : Option Refusal). answer_by o (batch_result c f)) e);
         table_left_of = sym (ap (λ (o : Option Refusal). unless o table (write_front (table_due c f) table)) e);
@@ -83,10 +85,9 @@ module _ (f : List ℕ) (c : FileChoice) (table out : List ℕ) where
       }
 
   -- 18
-  pub refuses_frames : (at : ℕ) → read_refusal (all_saves f) ≡ some (record { number = 18; place = at })
-      → Batches f c table out (answer.Refused 18 at) table out
-  refuses_frames at e =
-      refuses 18 at
+  pub refuses_frames : (r : Refused) → read_refusal (all_saves f) ≡ Some (refusal_lem r) → Batches f c table out (Err r) table out
+  refuses_frames r e =
+      refuses r
       (ap (λ (o : Option Refusal).
       first
       (o
@@ -105,30 +106,30 @@ module _ (f : List ℕ) (c : FileChoice) (table out : List ℕ) where
         λ t. first (w.passes t ∷ refuse_if (p t) 19 (length (table_due c f)) ∷ refuse_if (q t) 19 (length (texts_due c f)) ∷ [])
 
     -- 19, the table
-    pub refuses_table : length table < k * 3 → Batches f c table out (answer.Refused 19 (k * 3)) table out
+    pub refuses_table : length table < k * 3 → Batches f c table out (Err (record { reason = reason.BatchNeeds; place = k * 3 })) table out
     refuses_table h =
-        refuses 19 (k * 3)
+        refuses (record { reason = reason.BatchNeeds; place = k * 3 })
         (by_rooms true (ltb (length out) (length (texts_due c f))) (lt-ltb (length table) (length (table_due c f)) (omega (arith, cells_needed))) refl
-        ∙ ap (λ (n : ℕ). some (record { number = 19; place = n })) (sym cells_needed))
+        ∙ ap (λ (n : ℕ). Some (record { number = 19; place = n })) (sym cells_needed))
 
     module _ (roomy : k * 3 ≤ length table) (bytes : ℕ) (counted : bytes ≡ length (texts_due c f)) where
       table_fits : ltb (length table) (length (table_due c f)) ≡ false
       table_fits = le-ltb (length table) (length (table_due c f)) (omega (arith, cells_needed))
 
       -- 19, the output
-      pub refuses_output : length out < bytes → Batches f c table out (answer.Refused 19 bytes) table out
+      pub refuses_output : length out < bytes → Batches f c table out (Err (record { reason = reason.BatchNeeds; place = bytes })) table out
       refuses_output h =
-          refuses 19 bytes
+          refuses (record { reason = reason.BatchNeeds; place = bytes })
           (by_rooms false true table_fits (lt-ltb (length out) (length (texts_due c f)) (omega arith))
-          ∙ ap (λ (n : ℕ). some (record { number = 19; place = n })) (sym counted))
+          ∙ ap (λ (n : ℕ). Some (record { number = 19; place = n })) (sym counted))
 
       module _ (wide : bytes ≤ length out) where
         pub has_room : Room c f table out
         has_room = record { passes = w.passes; rows = omega (arith, cells_needed); texts = omega arith }
 
-        pub done : (table2 out2 : List ℕ) → Written c f table out table2 out2 → Batches f c table out (answer.Done k bytes) table2 out2
+        pub done : (table2 out2 : List ℕ) → Written c f table out table2 out2 → Batches f c table out (Ok (record { files = k; bytes = bytes })) table2 out2
         done table2 out2 z =
-            let e : refusal ≡ none = by_rooms false false table_fits (le-ltb (length out) (length (texts_due c f)) (omega arith)) in
+            let e : refusal ≡ None = by_rooms false false table_fits (le-ltb (length out) (length (texts_due c f)) (omega arith)) in
             record {
               answer =
                   (λ t. accepted (record { files = w.count t; bytes = counted t }))

@@ -1,7 +1,7 @@
 -- The texts of all files and their rows: counted, and written one after the other.
 -- Assumes nothing.
 use mathlib.Core.Path.{◌≡◌, refl, sym, ap, ap₂, ◌∙◌}
-use mathlib.Core.Option.{none}
+use Rattle.std.specs.Prelude.{None}
 use mathlib.Core.List.{List, [], ◌∷◌, ◌++◌, append-nil}
 use Prim.Native.Nat.{ℕ, ◌+◌, ◌-◌, ◌*◌, ◌≤◌, ◌<◌}
 use native.Mathlib.Omega.{arith}
@@ -59,7 +59,7 @@ module _ (c : FileChoice) where
       pub files : Files f at rest
       pub same : bytes + length (texts_of c rest) ≡ length (texts_due c f)
 
-    module _ (passes : read_refusal (all_saves f) ≡ none) where
+    module _ (passes : read_refusal (all_saves f) ≡ None) where
       pub adding_none : Adding 0 0
       adding_none = record { rest = saves_by (all_saves f); files = (listed f MAX_SAVES 0 passes).files; same = omega arith }
 

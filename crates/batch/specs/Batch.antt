@@ -1,6 +1,5 @@
 -- Document 02, 7/14, "A night's saves in one call": the files of a buffer, what each gives by itself, and what the batch answers and leaves.
-use Rattle.std.specs.Prelude.{cond, List, [], ◌∷◌, ◌++◌, ℕ, zero, suc, ◌+◌, ltb, leb, length}
-use Rattle.std.proofs.Math.Option.{Option}
+use Rattle.std.specs.Prelude.{cond, List, [], ◌∷◌, ◌++◌, ℕ, zero, suc, ◌+◌, ltb, leb, length, Option}
 use Rattle.refusals.specs.Refusals.{Refusal, first, refuse_if, unless}
 use Rattle.refusals.specs.Answers.{Answer, refused, accepted, answer_by}
 use Rattle.image.specs.Bytes.{be32, part}

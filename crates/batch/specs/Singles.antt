@@ -1,7 +1,6 @@
 -- "The result is that of single calls in the same order, each with 1,800 rows and 1,800 marks of its own and output enough; a refused file adds
 -- no text and changes no neighbour": of single calls by what `format_file` promises. proofs/Singles.antt proves it.
-use Rattle.std.specs.Prelude.{◌≡◌, List, [], ◌∷◌, ◌++◌, map, ℕ, ◌≤◌, ltb, length, take}
-use Rattle.std.proofs.Math.Option.{Option}
+use Rattle.std.specs.Prelude.{◌≡◌, List, [], ◌∷◌, ◌++◌, map, ℕ, ◌≤◌, ltb, length, take, Option, Result}
 use Rattle.refusals.specs.Refusals.{Refusal, first, refuse_if, unless}
 use Rattle.refusals.specs.Answers.{Answer, refused, accepted, answer_by}
 use Rattle.image.specs.Read.{read_refusal}
@@ -9,7 +8,8 @@ use Rattle.cut_rule.specs.Run.{write_front}
 use Rattle.whole_run.specs.Built.{FileChoice}
 use Rattle.whole_run.specs.File.{FileResult}
 use Rattle.file.specs.Whole.{formatted_answer, Formats}
-use Rattle.file.specs.declared.Formatted.{Formatted}
+use Rattle.refusals.specs.declared.Refused.{Refused}
+use Rattle.file.specs.declared.Text.{Text}
 use Rattle.batch.specs.Batch.{Save, all_saves, saves_by, row_of}
 use Rattle.batch.specs.Whole.{batched_answer, Batches, text_of}
 use Rattle.batch.specs.declared.Batch.{Batch}
@@ -18,7 +18,7 @@ use Rattle.batch.specs.declared.Batch.{Batch}
 pub record Made : Type 0 where
   pub file : Save
   pub out : List ℕ
-  pub answer : Formatted
+  pub answer : Result Text Refused
   pub out2 : List ℕ
 
 -- what `format_file` promises, with output enough: room for the text that the file gives, which a refused one has none of
@@ -54,7 +54,7 @@ refusal_by f ms cells room =
     ∷ [])
 
 -- the batch answers and leaves what single calls do, one for each file in order
-pub record SameAsSingles (f : List ℕ) (ms : List Made) (table out : List ℕ) (r : Batch) (table2 out2 : List ℕ) : Type 0 where
+pub record SameAsSingles (f : List ℕ) (ms : List Made) (table out : List ℕ) (r : Result Batch Refused) (table2 out2 : List ℕ) : Type 0 where
   pub answer : batched_answer r ≡ answer_by (refusal_by f ms (length table) (length out)) (record { files = length ms; bytes = length (texts_made ms) })
   pub table_left_of : table2 ≡ unless (refusal_by f ms (length table) (length out)) table (write_front (rows_made ms) table)
   pub texts_left_of : out2 ≡ unless (refusal_by f ms (length table) (length out)) out (write_front (texts_made ms) out)
@@ -62,6 +62,6 @@ pub record SameAsSingles (f : List ℕ) (ms : List Made) (table out : List ℕ) 
 abbrev pub AsSingles : Type 0
 AsSingles =
     (c : FileChoice) (f : List ℕ) (ms : List Made) → AllSingle c ms → map (λ m. m.file) ms ≡ saves_by (all_saves f)
-    → (table out : List ℕ) (r : Batch) (table2 out2 : List ℕ)
+    → (table out : List ℕ) (r : Result Batch Refused) (table2 out2 : List ℕ)
     → Batches f c table out r table2 out2
     → SameAsSingles f ms table out r table2 out2

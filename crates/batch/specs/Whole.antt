@@ -1,37 +1,34 @@
 -- What the batch's code answers and leaves, by the definitions of Batch.antt.
-use Rattle.std.specs.Prelude.{◌≡◌, List, [], ◌∷◌, ℕ, ◌^◌, ◌<◌, ◌≤◌, length}
-use Rattle.std.proofs.Math.Option.{none}
+use Rattle.std.specs.Prelude.{◌≡◌, List, [], ◌∷◌, ℕ, ◌^◌, ◌<◌, ◌≤◌, length, None, Result}
 use Rattle.refusals.specs.Answers.{Answer, refused, accepted}
+use Rattle.refusals.specs.Reasons.{answer_of}
+use Rattle.refusals.specs.declared.Refused.{Refused}
 use Rattle.image.specs.Read.{Read, got, bad, read_refusal}
 use Rattle.cut_rule.specs.Run.{write_front}
 use Rattle.whole_run.specs.Built.{FileChoice}
 use Rattle.batch.specs.Batch.{Save, all_saves, saves_by, row_of, text_by, rendered, single, BatchResult, batch_answer, table_due, texts_due, table_left, texts_left}
 use Rattle.batch.specs.declared.Batch.{Batch}
-use Rattle.batch.specs.declared.Batch.TheVariants as answer
-use Rattle.batch.specs.declared.frames.Frames.{Frames}
-use Rattle.batch.specs.declared.frames.Frames.TheVariants as frames
 use Rattle.batch.specs.declared.writing.Row.{Row}
 
--- An answer, case by case.
-abbrev pub batched_answer : Batch → Answer BatchResult
-batched_answer (answer.Done files bytes) = accepted (record { files = files; bytes = bytes })
-batched_answer (answer.Refused n p) = refused (record { number = n; place = p })
+-- An answer of the code's.
+abbrev pub batched_answer : Result Batch Refused → Answer BatchResult
+batched_answer = answer_of (λ b. record { files = b.files; bytes = b.bytes })
 
 -- the answer, and table and output at exit, for a buffer of frames and what the caller chose
-pub record Batches (f : List ℕ) (c : FileChoice) (table out : List ℕ) (r : Batch) (table2 out2 : List ℕ) : Type 0 where
+pub record Batches (f : List ℕ) (c : FileChoice) (table out : List ℕ) (r : Result Batch Refused) (table2 out2 : List ℕ) : Type 0 where
   pub answer : batched_answer r ≡ batch_answer c f (length table) (length out)
   pub table_left_of : table2 ≡ table_left c f table out
   pub texts_left_of : out2 ≡ texts_left c f table out
 
 -- ---- the code's answers to a part
--- how many frames there are, or the offset of the first at fault
-abbrev pub frames_by : Read (List Save) → Frames
-frames_by (got xs end) = frames.Whole (length xs)
-frames_by (bad n p) = frames.Cut p
+-- how many frames there are, or the refusal of the first at fault
+abbrev pub frames_by : Read (List Save) → Answer ℕ
+frames_by (got xs end) = accepted (length xs)
+frames_by (bad n p) = refused (record { number = n; place = p })
 
 -- a buffer that 18 lets pass, of so many files
 pub record Framed (f : List ℕ) (files : ℕ) : Type 0 where
-  pub passes : read_refusal (all_saves f) ≡ none
+  pub passes : read_refusal (all_saves f) ≡ None
   pub count : files ≡ length (saves_by (all_saves f))
 
 -- the text that a file adds
@@ -53,7 +50,7 @@ pub record Saved (c : FileChoice) (x : Save) (out : List ℕ) (r : Row) (out2 : 
 
 -- table and output have room for the rows and the texts of all files
 pub record Room (c : FileChoice) (f table out : List ℕ) : Type 0 where
-  pub passes : read_refusal (all_saves f) ≡ none
+  pub passes : read_refusal (all_saves f) ≡ None
   pub rows : length (table_due c f) ≤ length table
   pub texts : length (texts_due c f) ≤ length out
 

@@ -9,16 +9,16 @@ ghost use Rattle.file.specs.Whole.{to_choice};
 ghost use Rattle.batch.specs.Whole.{Framed, Batches};
 
 use crate::counting::count_texts;
-use crate::frames::{Frames, count_frames};
+use crate::frames::count_frames;
 use crate::writing::{CELLS, write_saves};
 use file::FileChoice;
+use refusals::{Reason, Refused};
 
-#[derive(Clone, Copy)]
-pub enum Batch {
-    // how many files there are, and the bytes of their texts
-    Done { files: usize, bytes: usize },
-    // the number and the place
-    Refused(u8, usize),
+/// What a batch gives: how many files there are, and the bytes of their texts.
+#[derive(Clone, Copy, Debug, PartialEq, Eq)]
+pub struct Batch {
+    pub files: usize,
+    pub bytes: usize,
 }
 
 // Formats the files of frames that are all whole, or refuses to: the table too small for them, or the output.
@@ -28,31 +28,31 @@ fn format_saves(
     out: &mut [u8],
     choice: FileChoice,
     files: usize,
-) -> Batch
+) -> Result<Batch, Refused>
     requires { Framed frames.now files }
     ensures { Batches frames.now (to_choice choice) table.old out.old result table.new out.new }
 {
     let cells = files * CELLS;
     if table.len() < cells {
-        return Batch::Refused(19, cells);
+        return Err(Reason::BatchNeeds.at(cells));
     }
     let bytes = count_texts(frames, choice);
     if out.len() < bytes {
-        return Batch::Refused(19, bytes);
+        return Err(Reason::BatchNeeds.at(bytes));
     }
     write_saves(frames, table, out, choice);
-    Batch::Done {
-        files: files,
-        bytes: bytes,
-    }
+    Ok(Batch { files, bytes })
 }
 
-// Formats the files of a buffer as single calls would, or refuses to and leaves table and output as they were.
-pub fn format_batch(frames: &[u8], table: &mut [u32], out: &mut [u8], choice: FileChoice) -> Batch
+/// Formats the files of a buffer as single calls would, or refuses to and leaves table and output as they were.
+pub fn format_batch(
+    frames: &[u8],
+    table: &mut [u32],
+    out: &mut [u8],
+    choice: FileChoice,
+) -> Result<Batch, Refused>
     ensures { Batches frames.now (to_choice choice) table.old out.old result table.new out.new }
 {
-    match count_frames(frames) {
-        Frames::Cut(at) => Batch::Refused(18, at),
-        Frames::Whole(files) => format_saves(frames, table, out, choice, files),
-    }
+    let files = count_frames(frames)?;
+    format_saves(frames, table, out, choice, files)
 }

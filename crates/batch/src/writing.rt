@@ -6,13 +6,14 @@ ghost use Rattle.batch.specs.Batch.{frame_end, save_at};
 ghost use Rattle.batch.specs.Whole.{text_of, cells, Small, Saved, Room, Written};
 
 use crate::frames::{HEAD, frame_end, image_start};
-use file::{FileChoice, Formatted, format_file};
+use file::{FileChoice, format_file};
 
 // Three numbers a file.
 pub(crate) const CELLS: usize = 3;
 
 // The refusal's number or 0, its place or 0, the bytes of the text.
-#[derive(Clone, Copy)]
+// kept: the table's cells are these numbers, so that a row is what is stored and no answer to be told apart.
+#[derive(Clone, Copy, Debug, PartialEq, Eq)]
 pub(crate) struct Row {
     number: u8,
     place: usize,
@@ -28,19 +29,14 @@ fn write_text(frames: &[u8], at: usize, out: &mut [u8], choice: FileChoice) -> R
     let image = image_start(frames, at);
     let end = frame_end(frames, at);
     match format_file(&frames[source..image], &frames[image..end], out, choice) {
-        Formatted::Text {
-            bytes,
-            left,
-            rows,
-            numbers,
-        } => Row {
+        Ok(text) => Row {
             number: 0,
             place: 0,
-            bytes: bytes.0,
+            bytes: text.bytes.0,
         },
-        Formatted::Refused(number, place) => Row {
-            number: number,
-            place: place,
+        Err(refused) => Row {
+            number: refused.number(),
+            place: refused.place,
             bytes: 0,
         },
     }
@@ -48,12 +44,11 @@ fn write_text(frames: &[u8], at: usize, out: &mut [u8], choice: FileChoice) -> R
 
 // Writes a row into the table, from place `at` on.
 fn write_row(table: &mut [u32], at: usize, row: Row)
-    requires { (at + 3 ≤ length table.old) × Small row }
+    requires { (at + CELLS ≤ length table.old) × Small row }
     ensures { table.new ≡ sets table.old at (cells row) }
 {
-    table[at] = row.number as u32;
-    table[at + 1] = row.place as u32;
-    table[at + 2] = row.bytes as u32;
+    let cells = [u32::from(row.number), row.place as u32, row.bytes as u32];
+    table[at..at + CELLS].copy_from_slice(&cells);
 }
 
 // Writes the rows and the texts of all files.
@@ -61,9 +56,9 @@ pub(crate) fn write_saves(frames: &[u8], table: &mut [u32], out: &mut [u8], choi
     requires { Room (to_choice choice) frames.now table.old out.old }
     ensures { Written (to_choice choice) frames.now table.old out.old table.new out.new }
 {
-    let mut at: usize = 0;
-    let mut cell: usize = 0;
-    let mut text: usize = 0;
+    let mut at = 0;
+    let mut cell = 0;
+    let mut text = 0;
     while at < frames.len() {
         let row = write_text(frames, at, &mut out[text..], choice);
         write_row(table, cell, row);

@@ -1,15 +1,13 @@
 -- How many rows comment placing takes: one for newlines at most, and two for each comment that is placed. It takes no numbers.
 -- Assumes nothing.
 use mathlib.Core.Bool.{Bool, true, false, cond, ◌&&◌}
-use mathlib.Core.Option.{Option, none, some}
+use Rattle.std.specs.Prelude.{Option, None, Some}
 use Prim.Native.Nat.{ℕ, zero, suc, ◌-◌}
 use native.Mathlib.Omega.{arith}
 use lib.ListN.{length}
 use lib.Dec.{ltb, eqb}
 use Rattle.text.specs.Space.{trim_end, something}
 use Rattle.text.specs.Newlines.{count_newlines}
-use Rattle.text.specs.declared.space.Found.{Found}
-use Rattle.text.specs.declared.space.Found.TheVariants.{At, Nowhere}
 use Rattle.ast.specs.Syntax.{Span}
 use Rattle.rows.specs.Node.{comment, line, empty_line}
 use Rattle.rows.specs.Rows.{size}
@@ -53,11 +51,11 @@ module _ (g : Given) where
     where
       go : (s : St) (o : Option Span) → Few 0 0 (pop_comments g n position true) → FewAt 0 0 s
           (elim o [
-            | none ↦ skip s
-            | some c ↦ cond (ltb c.start position) (pop_comment g leading c ⨟ pop_comments g n position true) skip s
+            | None ↦ skip s
+            | Some c ↦ cond (ltb c.start position) (pop_comment g leading c ⨟ pop_comments g n position true) skip s
           ])
-      go s none more = few_skip.at s
-      go s (some c) more = (few_cond (ltb c.start position) (few_then (few_comment leading c) more) few_skip).at s
+      go s None more = few_skip.at s
+      go s (Some c) more = (few_cond (ltb c.start position) (few_then (few_comment leading c) more) few_skip).at s
 
   pub few_whitespace : (position : ℕ) (leading trailing only : Bool) → Few 1 0 (step_alone (pop_whitespace g position leading trailing only))
   unfolding pop_whitespace
@@ -81,11 +79,11 @@ module _ (g : Given) where
       one : (c : Span) → Few 0 0 (pop ⨟ push_comment g c ⨟ move_to c.end)
       one c = few_pop (few_more (omega arith) (omega arith) (few_then (few_remark c) (few_move_to c.end)))
 
-      go : (s : St) (f : Found) (o : Option Span) → FewAt 0 0 s
+      go : (s : St) (f : Option ℕ) (o : Option Span) → FewAt 0 0 s
           (elim f [
-            | Nowhere ↦ skip s
-            | At place ↦ elim o [ none ↦ skip s | some c ↦ cond (eqb c.start place) (pop ⨟ push_comment g c ⨟ move_to c.end) skip s ]
+            | None ↦ skip s
+            | Some place ↦ elim o [ None ↦ skip s | Some c ↦ cond (eqb c.start place) (pop ⨟ push_comment g c ⨟ move_to c.end) skip s ]
           ])
-      go s Nowhere o = few_skip.at s
-      go s (At place) none = few_skip.at s
-      go s (At place) (some c) = (few_cond (eqb c.start place) (one c) few_skip).at s
+      go s None o = few_skip.at s
+      go s (Some place) None = few_skip.at s
+      go s (Some place) (Some c) = (few_cond (eqb c.start place) (one c) few_skip).at s

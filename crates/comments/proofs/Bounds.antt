@@ -3,15 +3,13 @@
 use mathlib.Core.Path.{◌≡◌, refl}
 use mathlib.Core.Bool.{Bool, true, false, cond, ◌&&◌}
 use mathlib.Core.List.{List}
-use mathlib.Core.Option.{Option, none, some}
+use Rattle.std.specs.Prelude.{Option, None, Some}
 use Prim.Native.Nat.{ℕ, zero, suc, ◌-◌, ◌≤◌, min}
 use native.Mathlib.Omega.{arith}
 use lib.ListN.{length}
 use lib.Dec.{ltb, eqb}
 use Rattle.text.specs.Space.{something}
 use Rattle.text.specs.Newlines.{count_newlines}
-use Rattle.text.specs.declared.space.Found.{Found}
-use Rattle.text.specs.declared.space.Found.TheVariants.{At, Nowhere}
 use Rattle.text.proofs.Counts.{range_inside}
 use Rattle.ast.specs.Syntax.{Span}
 use Rattle.rows.specs.Node.{line, empty_line}
@@ -45,12 +43,12 @@ module _ {s b : List ℕ} (l : Listed s b) where
   ignored_within position h = keeps_of (λ t. go t (nth (comments_of b) t.placed))
     where
       go : (t : St) (o : Option Span)
-          → KeepsAt (length (comments_of b)) (length s) t (move_to (elim o [ none ↦ position | some c ↦ min position c.start ]) t)
-      go t none = keeps_at (keeps_move_to position h) t
-      go t (some c) = keeps_at (keeps_move_to (min position c.start) (omega arith)) t
+          → KeepsAt (length (comments_of b)) (length s) t (move_to (elim o [ None ↦ position | Some c ↦ min position c.start ]) t)
+      go t None = keeps_at (keeps_move_to position h) t
+      go t (Some c) = keeps_at (keeps_move_to (min position c.start) (omega arith)) t
 
   -- what follows the popping of the comment that waits at the front
-  popped : (t : St) (c : Span) → nth (comments_of b) t.placed ≡ some c → (a : Act) → Within a → Here t ((pop ⨟ a) t)
+  popped : (t : St) (c : Span) → nth (comments_of b) t.placed ≡ Some c → (a : Act) → Within a → Here t ((pop ⨟ a) t)
   unfolding ◌⨟◌
   popped t c e a k =
       let u : St = next t (pop t) in
@@ -61,12 +59,12 @@ module _ {s b : List ℕ} (l : Listed s b) where
       }
 
   -- where a comment of the list ends
-  ends : (k : ℕ) (c : Span) → nth (comments_of b) k ≡ some c → (c.start ≤ length s) × (c.end ≤ length s)
+  ends : (k : ℕ) (c : Span) → nth (comments_of b) k ≡ Some c → (c.start ≤ length s) × (c.end ≤ length s)
   ends k c e =
       let r = range_inside s c.start c.end (good l k c e).range in
       (omega (arith, r.0, r.1), r.1)
 
-  comment_within : (leading : Bool) (t : St) (c : Span) → nth (comments_of b) t.placed ≡ some c → Here t (pop_comment (given s b) leading c t)
+  comment_within : (leading : Bool) (t : St) (c : Span) → nth (comments_of b) t.placed ≡ Some c → Here t (pop_comment (given s b) leading c t)
   unfolding pop_comment
   comment_within leading t c e =
       let r = ends t.placed c e in
@@ -83,7 +81,7 @@ module _ {s b : List ℕ} (l : Listed s b) where
   comments_within (suc n) position leading =
       keeps_of (λ t. go t (nth (comments_of b) t.placed) refl (comments_within n position true))
     where
-      pick : (t : St) (c : Span) (x : Bool) → nth (comments_of b) t.placed ≡ some c
+      pick : (t : St) (c : Span) (x : Bool) → nth (comments_of b) t.placed ≡ Some c
           → Keeps (length (comments_of b)) (length s) (pop_comments (given s b) n position true)
           → KeepsAt (length (comments_of b)) (length s) t
           (cond x (pop_comment (given s b) leading c ⨟ pop_comments (given s b) n position true) skip t)
@@ -94,12 +92,12 @@ module _ {s b : List ℕ} (l : Listed s b) where
           → Keeps (length (comments_of b)) (length s) (pop_comments (given s b) n position true)
           → KeepsAt (length (comments_of b)) (length s) t
           (elim o [
-            | none ↦ skip t
-            | some c ↦
+            | None ↦ skip t
+            | Some c ↦
                 cond (ltb c.start position) (pop_comment (given s b) leading c ⨟ pop_comments (given s b) n position true) skip t
           ])
-      go t none e more = keeps_at keeps_skip t
-      go t (some c) e more = pick t c (ltb c.start position) e more
+      go t None e more = keeps_at keeps_skip t
+      go t (Some c) e more = pick t c (ltb c.start position) e more
 
   -- `pop_whitespace`
   pub whitespace_within : (position : ℕ) (leading trailing only : Bool) → position ≤ length s
@@ -124,18 +122,18 @@ module _ {s b : List ℕ} (l : Listed s b) where
   unfolding pop_trailing_comment
   trailing_within = keeps_of (λ t. go t (something s t.pos) (nth (comments_of b) t.placed) refl)
     where
-      pick : (t : St) (c : Span) (x : Bool) → nth (comments_of b) t.placed ≡ some c
+      pick : (t : St) (c : Span) (x : Bool) → nth (comments_of b) t.placed ≡ Some c
           → KeepsAt (length (comments_of b)) (length s) t (cond x (pop ⨟ push_comment (given s b) c ⨟ move_to c.end) skip t)
       pick t c true e = popped t c e _ (keeps_then (keeps_push _) (keeps_move_to c.end (ends t.placed c e).1))
       pick t c false e = keeps_at keeps_skip t
 
-      go : (t : St) (f : Found) (o : Option Span) → nth (comments_of b) t.placed ≡ o
+      go : (t : St) (f : Option ℕ) (o : Option Span) → nth (comments_of b) t.placed ≡ o
           → KeepsAt (length (comments_of b)) (length s) t
           (elim f [
-            | Nowhere ↦ skip t
-            | At place ↦
-                elim o [ none ↦ skip t | some c ↦ cond (eqb c.start place) (pop ⨟ push_comment (given s b) c ⨟ move_to c.end) skip t ]
+            | None ↦ skip t
+            | Some place ↦
+                elim o [ None ↦ skip t | Some c ↦ cond (eqb c.start place) (pop ⨟ push_comment (given s b) c ⨟ move_to c.end) skip t ]
           ])
-      go t Nowhere o e = keeps_at keeps_skip t
-      go t (At place) none e = keeps_at keeps_skip t
-      go t (At place) (some c) e = pick t c (eqb c.start place) e
+      go t None o e = keeps_at keeps_skip t
+      go t (Some place) None e = keeps_at keeps_skip t
+      go t (Some place) (Some c) e = pick t c (eqb c.start place) e

@@ -4,7 +4,7 @@ use mathlib.Core.Path.{◌≡◌, refl, sym, ap, subst, ◌∙◌}
 use mathlib.Core.Logic.{◌⊎◌, inl, inr}
 use mathlib.Core.Bool.{Bool, true, false, cond, ◌&&◌}
 use mathlib.Core.List.{List}
-use mathlib.Core.Option.{Option, none, some}
+use Rattle.std.specs.Prelude.{Option, None, Some}
 use Prim.Native.Nat.{ℕ, zero, suc, ◌+◌, ◌-◌, ◌≤◌, ◌<◌, min}
 use native.Mathlib.Omega.{arith}
 use lib.ListN.{length}
@@ -12,8 +12,6 @@ use lib.Dec.{ltb, eqb}
 use borrow.Author.Tests.{lt-ltb, le-ltb, ltb-false, eq-eqb, ne_eqb}
 use Rattle.text.specs.Space.{something}
 use Rattle.text.specs.Newlines.{count_newlines}
-use Rattle.text.specs.declared.space.Found.{Found}
-use Rattle.text.specs.declared.space.Found.TheVariants.{At, Nowhere}
 use Rattle.ast.specs.Syntax.{Span}
 use Rattle.text.specs.declared.newlines.Newlines.{Newlines}
 use Rattle.rows.specs.Node.{line, empty_line}
@@ -29,17 +27,17 @@ use Rattle.comments.specs.Comments.{pop_comments, after_comments, pop_whitespace
 
 module _ (g : Given) where
   -- ---- by what waits at the front
-  pub waits_none : (position : ℕ) (s : St) → nth g.comments s.placed ≡ none → waits g position s ≡ false
+  pub waits_none : (position : ℕ) (s : St) → nth g.comments s.placed ≡ None → waits g position s ≡ false
   waits_none position s e = rw (e, waits)
 
-  pub waits_some : (position : ℕ) (s : St) (p : Span) → nth g.comments s.placed ≡ some p → waits g position s ≡ ltb p.start position
+  pub waits_some : (position : ℕ) (s : St) (p : Span) → nth g.comments s.placed ≡ Some p → waits g position s ≡ ltb p.start position
   waits_some position s p e = rw (e, waits)
 
-  pub ignored_none : (position : ℕ) (s : St) → nth g.comments s.placed ≡ none → (ignore_newlines g position s).pos ≡ position
+  pub ignored_none : (position : ℕ) (s : St) → nth g.comments s.placed ≡ None → (ignore_newlines g position s).pos ≡ position
   unfolding ignore_newlines
   ignored_none position s e = rw e
 
-  pub ignored_some : (position : ℕ) (s : St) (p : Span) → nth g.comments s.placed ≡ some p
+  pub ignored_some : (position : ℕ) (s : St) (p : Span) → nth g.comments s.placed ≡ Some p
       → (ignore_newlines g position s).pos ≡ min position p.start
   unfolding ignore_newlines
   ignored_some position s p e = rw e
@@ -108,18 +106,18 @@ module _ (g : Given) where
   one_more leading p {c = c} l = ap (λ (x : Cursor). x.placed) l.moved ∙ comment_placed leading p (st c)
 
   -- ---- the loop of `pop_whitespace`
-  pub pop_on : (n position : ℕ) (leading : Bool) (s : St) (p : Span) → nth g.comments s.placed ≡ some p → ltb p.start position ≡ true
+  pub pop_on : (n position : ℕ) (leading : Bool) (s : St) (p : Span) → nth g.comments s.placed ≡ Some p → ltb p.start position ≡ true
       → pop_comments g (suc n) position leading s ≡ (pop_comment g leading p ⨟ pop_comments g n position true) s
   unfolding pop_comments
   pop_on n position leading s p e w = rw (e, pop_comments) (rw w)
 
-  pub pop_late : (n position : ℕ) (leading : Bool) (s : St) (p : Span) → nth g.comments s.placed ≡ some p → ltb p.start position ≡ false
+  pub pop_late : (n position : ℕ) (leading : Bool) (s : St) (p : Span) → nth g.comments s.placed ≡ Some p → ltb p.start position ≡ false
       → pop_comments g n position leading s ≡ skip s
   unfolding pop_comments
   pop_late zero position leading s p e w = refl
   pop_late (suc n) position leading s p e w = rw (e, pop_comments) (rw w)
 
-  pub pop_none : (n position : ℕ) (leading : Bool) (s : St) → nth g.comments s.placed ≡ none → pop_comments g n position leading s ≡ skip s
+  pub pop_none : (n position : ℕ) (leading : Bool) (s : St) → nth g.comments s.placed ≡ None → pop_comments g n position leading s ≡ skip s
   unfolding pop_comments
   pop_none zero position leading s e = refl
   pop_none (suc n) position leading s e = rw (e, pop_comments)
@@ -139,7 +137,7 @@ module _ (g : Given) where
 
   module _ {position : ℕ} {leading : Bool} {s₀ : List ℕ} {c₀ : Cursor} where
     -- there is room for the comment at the front
-    pub going_room : {keep : Bool} {s : List ℕ} {c : Cursor} (p : Span) → nth g.comments c.placed ≡ some p → p.start < position
+    pub going_room : {keep : Bool} {s : List ℕ} {c : Cursor} (p : Span) → nth g.comments c.placed ≡ Some p → p.start < position
         → c.placed < length g.comments → Going position leading s₀ c₀ keep s c → Room (pop_comment g keep p) c
     going_room {keep} {s} {c} p e w h i = go i.turns i.enough i.room
       where
@@ -148,7 +146,7 @@ module _ (g : Given) where
         go (suc m) f room =
             room_first (pop_comments g m position true) (room_same (pop_on m position keep (st c) p e (lt-ltb p.start position w)) room)
 
-    pub go_on : {keep : Bool} {s s₁ : List ℕ} {c c₁ : Cursor} (p : Span) → nth g.comments c.placed ≡ some p → p.start < position
+    pub go_on : {keep : Bool} {s s₁ : List ℕ} {c c₁ : Cursor} (p : Span) → nth g.comments c.placed ≡ Some p → p.start < position
         → c.placed < length g.comments → Laid (pop_comment g keep p) s c s₁ c₁
         → Going position leading s₀ c₀ keep s c → Going position leading s₀ c₀ true s₁ c₁
     go_on {keep} {s} {s₁} {c} {c₁} p e w h l i = go i.turns i.enough i.room i.goes
@@ -168,11 +166,11 @@ module _ (g : Given) where
             }
 
     -- it ends where no comment is left, and where the next starts at the position or after it
-    pub end_none : {keep : Bool} {s : List ℕ} {c : Cursor} → nth g.comments c.placed ≡ none
+    pub end_none : {keep : Bool} {s : List ℕ} {c : Cursor} → nth g.comments c.placed ≡ None
         → Going position leading s₀ c₀ keep s c → Laid (pop_comments g (length g.comments) position leading) s₀ c₀ s c
     end_none {keep} {s} {c} e i = i.goes s c (laid_same (sym (pop_none i.turns position keep (st c) e)) laid_skip)
 
-    pub end_late : {keep : Bool} {s : List ℕ} {c : Cursor} (p : Span) → nth g.comments c.placed ≡ some p → position ≤ p.start
+    pub end_late : {keep : Bool} {s : List ℕ} {c : Cursor} (p : Span) → nth g.comments c.placed ≡ Some p → position ≤ p.start
         → Going position leading s₀ c₀ keep s c → Laid (pop_comments g (length g.comments) position leading) s₀ c₀ s c
     end_late {keep} {s} {c} p e w i =
         i.goes s c (laid_same (sym (pop_late i.turns position keep (st c) p e (le-ltb p.start position w))) laid_skip)
@@ -266,15 +264,15 @@ module _ (g : Given) where
   passes n position leading s w = go (nth g.comments s.placed) refl
     where
       go : (o : Option Span) → nth g.comments s.placed ≡ o → pop_comments g n position leading s ≡ skip s
-      go none e = pop_none n position leading s e
-      go (some p) e = pop_late n position leading s p e (sym (waits_some position s p e) ∙ w)
+      go None e = pop_none n position leading s e
+      go (Some p) e = pop_late n position leading s p e (sym (waits_some position s p e) ∙ w)
 
   goes : (position : ℕ) (s : St) → waits g position s ≡ false → (ignore_newlines g position s).pos ≡ position
   goes position s w = go (nth g.comments s.placed) refl
     where
       go : (o : Option Span) → nth g.comments s.placed ≡ o → (ignore_newlines g position s).pos ≡ position
-      go none e = ignored_none position s e
-      go (some p) e =
+      go None e = ignored_none position s e
+      go (Some p) e =
           omega (arith, ignored_some position s p e, ltb-false p.start position (sym (waits_some position s p e) ∙ w))
 
   pub laid_quiet : (position : ℕ) (leading trailing : Bool) {only : Bool} {s : List ℕ} {c c' : Cursor} → waits g position (st c) ≡ false
@@ -286,25 +284,25 @@ module _ (g : Given) where
       (laid_ignored position (e ∙ ap (λ (p : ℕ). cursor c.row c.number p c.placed) (sym (goes position (st c) w))))
 
   -- ---- `pop_trailing_comment`
-  pub no_place : (s : St) → something g.source s.pos ≡ Nowhere → pop_trailing_comment g s ≡ skip s
+  pub no_place : (s : St) → something g.source s.pos ≡ None → pop_trailing_comment g s ≡ skip s
   unfolding pop_trailing_comment
   no_place s e = rw (e, pop_trailing_comment)
 
-  no_comment_at : (s : St) (found : Found) → something g.source s.pos ≡ found → nth g.comments s.placed ≡ none
+  no_comment_at : (s : St) (found : Option ℕ) → something g.source s.pos ≡ found → nth g.comments s.placed ≡ None
       → pop_trailing_comment g s ≡ skip s
   unfolding pop_trailing_comment
-  no_comment_at s Nowhere e f = no_place s e
-  no_comment_at s (At place) e f = rw (e, pop_trailing_comment) (rw (f, pop_trailing_comment))
+  no_comment_at s None e f = no_place s e
+  no_comment_at s (Some place) e f = rw (e, pop_trailing_comment) (rw (f, pop_trailing_comment))
 
-  pub no_comment : (s : St) → nth g.comments s.placed ≡ none → pop_trailing_comment g s ≡ skip s
+  pub no_comment : (s : St) → nth g.comments s.placed ≡ None → pop_trailing_comment g s ≡ skip s
   no_comment s f = no_comment_at s _ refl f
 
-  pub elsewhere : (s : St) (place : ℕ) (p : Span) → something g.source s.pos ≡ At place → nth g.comments s.placed ≡ some p
+  pub elsewhere : (s : St) (place : ℕ) (p : Span) → something g.source s.pos ≡ Some place → nth g.comments s.placed ≡ Some p
       → (p.start ≡ place → ⊥) → pop_trailing_comment g s ≡ skip s
   unfolding pop_trailing_comment
   elsewhere s place p e f h = rw (e, pop_trailing_comment) (rw (f, pop_trailing_comment) (rw (ne_eqb p.start place h)))
 
-  pub trailing_one : (s : St) (place : ℕ) (p : Span) → something g.source s.pos ≡ At place → nth g.comments s.placed ≡ some p
+  pub trailing_one : (s : St) (place : ℕ) (p : Span) → something g.source s.pos ≡ Some place → nth g.comments s.placed ≡ Some p
       → p.start ≡ place → pop_trailing_comment g s ≡ (pop ⨟ push_comment g p ⨟ move_to p.end) s
   unfolding pop_trailing_comment
   trailing_one s place p e f h = rw (e, pop_trailing_comment) (rw (f, pop_trailing_comment) (rw (eq-eqb p.start place h)))

@@ -1,11 +1,9 @@
 -- `pop_trailing_comment`, `pop_whitespace`, `newlines` and `ignore_newlines` of fmt.rs. Where the Rust returns whether there is white space, the
 -- rules return what was counted, with its place (request 1).
-use Rattle.std.specs.Prelude.{ℕ, zero, suc, ◌-◌, min, Bool, true, false, cond, ◌&&◌, ◌||◌, List, [], ◌∷◌, length, ltb, eqb}
-use Rattle.std.proofs.Math.Option.{Option, none, some}
+use Rattle.std.specs.Prelude.{ℕ, zero, suc, ◌-◌, min, Bool, true, false, cond, ◌&&◌, ◌||◌, List, [], ◌∷◌, length, ltb, eqb, Option, None, Some}
 use Rattle.text.specs.Space.{trim_end, something}
 use Rattle.text.specs.Newlines.{count_newlines}
 use Rattle.text.specs.declared.newlines.Newlines.{Newlines}
-use Rattle.text.specs.declared.space.Found.TheVariants.{At, Nowhere}
 use Rattle.ast.specs.Syntax.{Span}
 use Rattle.rows.specs.Node.{comment, line, empty_line}
 use Rattle.acts.specs.Act.{Given, St, Act, Asking, ◌⨟◌, ◌⨟!◌, skip, push, move_to, pop, step_alone, answering, turning}
@@ -13,8 +11,8 @@ use Rattle.comments.specs.declared.Gap.{Gap}
 
 -- the element of a list at a place
 unfoldable pub nth : {A : Type 0} → List A → ℕ → Option A
-nth [] k = none
-nth (x ∷ xs) zero = some x
+nth [] k = None
+nth (x ∷ xs) zero = Some x
 nth (x ∷ xs) (suc k) = nth xs k
 
 -- a line for one newline, an empty line for more
@@ -50,7 +48,7 @@ module _ (g : Given) where
 
   -- `ignore_newlines`: to the position, or to the front comment where that starts before it
   unfoldable pub ignore_newlines : ℕ → Act
-  ignore_newlines position s = move_to (elim (front s) [ none ↦ position | some c ↦ min position c.start ]) s
+  ignore_newlines position s = move_to (elim (front s) [ None ↦ position | Some c ↦ min position c.start ]) s
 
   -- one comment of `pop_whitespace`; the position is then its end less 1
   unfoldable pub pop_comment : Bool → Span → Act
@@ -59,7 +57,7 @@ module _ (g : Given) where
 
   -- a comment waits before the position: after the loop, the Rust's `!first`
   abbrev pub waits : ℕ → St → Bool
-  waits position s = elim (front s) [ none ↦ false | some c ↦ ltb c.start position ]
+  waits position s = elim (front s) [ None ↦ false | Some c ↦ ltb c.start position ]
 
   -- the loop of `pop_whitespace`: the comments that start before the position, n at most. Newlines before the first are kept where
   -- `leading` says so, before the others always
@@ -67,8 +65,8 @@ module _ (g : Given) where
   pop_comments zero position leading s = skip s
   pop_comments (suc n) position leading s =
       elim (front s) [
-        | none ↦ skip s
-        | some c ↦ cond (ltb c.start position) (pop_comment leading c ⨟ pop_comments n position true) skip s
+        | None ↦ skip s
+        | Some c ↦ cond (ltb c.start position) (pop_comment leading c ⨟ pop_comments n position true) skip s
       ]
 
   -- what `pop_whitespace` does after its loop; `commented` is the Rust's `!first && preserve_trailing_whitespace`
@@ -86,7 +84,7 @@ module _ (g : Given) where
   unfoldable pub pop_trailing_comment : Act
   pop_trailing_comment s =
       elim (something g.source s.pos) [
-        | Nowhere ↦ skip s
-        | At place ↦
-            elim (front s) [ none ↦ skip s | some c ↦ cond (eqb c.start place) (pop ⨟ push_comment c ⨟ move_to c.end) skip s ]
+        | None ↦ skip s
+        | Some place ↦
+            elim (front s) [ None ↦ skip s | Some c ↦ cond (eqb c.start place) (pop ⨟ push_comment c ⨟ move_to c.end) skip s ]
       ]

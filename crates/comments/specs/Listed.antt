@@ -1,14 +1,12 @@
 -- What layout is given by a source and an image, and what it may rely on of the comments of an accepted image.
-use Rattle.std.specs.Prelude.{ℕ, ◌+◌, ◌*◌, ◌≤◌, ◌<◌, ◌≡◌, true, List, length}
-use Rattle.std.proofs.Math.Option.{Option, none, some}
+use Rattle.std.specs.Prelude.{ℕ, ◌+◌, ◌*◌, ◌≤◌, ◌<◌, ◌≡◌, true, List, length, Option, None, Some}
 use Rattle.text.specs.Newlines.{is_range}
 use Rattle.image.specs.Limits.{MAX_COMMENTS}
 use Rattle.image.specs.Bytes.{be16, be32}
 use Rattle.ast.specs.Syntax.{Span}
 use Rattle.tree.specs.CommentList.{comments_of}
 use Rattle.acts.specs.Act.{Given}
-use Rattle.comments.specs.declared.Pending.{Pending}
-use Rattle.comments.specs.declared.Pending.TheVariants.{Comment, Nothing}
+use Rattle.comments.specs.declared.Waiting.{Waiting}
 
 -- what layout is given by a source and an image: an identifier measures the width that the image supplies
 abbrev pub given : List ℕ → List ℕ → Given
@@ -26,6 +24,6 @@ pub record Listed (s b : List ℕ) : Type 0 where
   pub range : (k : ℕ) → k < be16 b 5 → is_range s (be32 b (7 + 8 * k)) (be32 b (7 + 8 * k + 4)) ≡ true
 
 -- what `front` returns for each comment, and for none
-abbrev pub pending_of : Option Span → Pending
-pending_of none = Nothing
-pending_of (some p) = Comment p.start p.end
+abbrev pub pending_of : Option Span → Option Waiting
+pending_of None = None
+pending_of (Some p) = Some (record { start = p.start; end = p.end })

@@ -3,7 +3,6 @@
 #![tactic(auto)]
 
 ghost use Rattle.std.specs.Prelude.{◌≡◌, cond, List, [], ℕ, ◌+◌, ◌≤◌, length};
-ghost use Rattle.std.proofs.Math.Option.{some};
 ghost use Rattle.acts.specs.Act.{step_alone};
 ghost use Rattle.acts.specs.Laid.{cursor, st, Room, Laid, LaidAsking};
 ghost use Rattle.comments.specs.Comments.{nth, break_line, gap_of, uncounted, whitespace, push_comment, newlines, ignore_newlines, pop_comment, waits};
@@ -13,56 +12,98 @@ ghost use Rattle.comments.specs.Listed.{given, ListFits, Listed, pending_of};
 
 mod reading;
 
-use crate::reading::{newlines_from, something_from};
+use crate::reading::Reading;
 use acts::leaves::{empty_line, line};
 use acts::{Cursor, move_to, with_placed};
 use image::bytes::{num16, num32};
 use rows::units::Bytes;
 use text::newlines::Newlines;
-use text::space::{Found, trim_end};
+use text::space::trim_end;
 
-// The comment at the front of those that wait: its start and its end.
-#[derive(Drop)]
-pub enum Pending {
-    Comment(u32, u32),
-    Nothing,
+// A comment that waits to be placed: where it starts and ends in the source.
+#[derive(Clone, Copy, Debug, PartialEq, Eq)]
+pub struct Waiting {
+    pub start: u32,
+    pub end: u32,
+}
+
+// Which newlines are kept where white space is passed: those before the first comment, those after the last, and those where there is no
+// comment. They are `preserve_leading_whitespace`, `preserve_trailing_whitespace` and `preserve_only_whitespace` of the Rust.
+#[derive(Clone, Copy, Debug, PartialEq, Eq)]
+pub struct Kept {
+    pub leading: bool,
+    pub trailing: bool,
+    pub only: bool,
+}
+
+impl Kept {
+    pub const NONE: Kept = Kept {
+        leading: false,
+        trailing: false,
+        only: false,
+    };
+
+    pub const BEFORE_COMMENTS: Kept = Kept {
+        leading: true,
+        trailing: false,
+        only: false,
+    };
+
+    pub const AFTER_COMMENTS: Kept = Kept {
+        leading: false,
+        trailing: true,
+        only: false,
+    };
+
+    pub const AROUND_COMMENTS: Kept = Kept {
+        leading: true,
+        trailing: true,
+        only: false,
+    };
+
+    pub const ALL: Kept = Kept {
+        leading: true,
+        trailing: true,
+        only: true,
+    };
 }
 
 // The white space before something: the newlines that were counted last, with the place of the last of them, and whether they come after
 // comments that keep them.
-#[derive(Drop)]
+// kept: there are newlines to tell of whether the flag is set or not, so that no Option has them.
+#[derive(Clone, Copy, Debug, PartialEq, Eq)]
 pub struct Gap {
     pub newlines: Newlines,
     pub commented: bool,
 }
 
 // What `pop_whitespace` leaves: the cursor, and the gap that it went over.
-#[derive(Drop)]
+#[derive(Clone, Copy, Debug, PartialEq, Eq)]
 pub struct Passed {
     pub cursor: Cursor,
     pub gap: Gap,
 }
 
 // What `newlines` leaves: the cursor, and the newlines that it counted.
-#[derive(Drop)]
+#[derive(Clone, Copy, Debug, PartialEq, Eq)]
 struct Counted {
     cursor: Cursor,
     newlines: Newlines,
 }
 
 // `comments.front()`
-fn front(image: &[u8], c: Cursor) -> Pending
+fn front(image: &[u8], c: Cursor) -> Option<Waiting>
     requires { ListFits image.now }
     ensures { result ≡ pending_of (nth (comments_of image.now) c.placed) }
 {
     let k = c.placed as usize;
     if k < num16(image, 5) {
         let at = 7 + 8 * k;
-        let start = num32(image, at);
-        let end = num32(image, at + 4);
-        return Pending::Comment(start as u32, end as u32);
+        let start = num32(image, at) as u32;
+        let end = num32(image, at + 4) as u32;
+        return Some(Waiting { start, end });
     }
-    Pending::Nothing
+    None
 }
 
 // Whether a comment waits before the position.
@@ -71,20 +112,20 @@ fn is_waiting(image: &[u8], c: Cursor, position: u32) -> bool
     ensures { (s : List ℕ) → result ≡ waits (given s image.now) position (st c) }
 {
     match front(image, c) {
-        Pending::Nothing => false,
-        Pending::Comment(start, _) => start < position,
+        Some(comment) => comment.start < position,
+        None => false,
     }
 }
 
 // `Node::Comment` of a comment without the white space at its end.
-fn push_comment(store: &mut [u32], c: Cursor, source: &[u8], start: u32, end: u32) -> Cursor
-    requires start_le_end { start ≤ end }
-    requires room { Room (push_comment (given source.now []) (span start end)) c }
-    ensures { (b : List ℕ) → Laid (push_comment (given source.now b) (span start end)) store.old c store.new result }
+fn push_comment(store: &mut [u32], c: Cursor, source: &[u8], comment: Waiting) -> Cursor
+    requires start_le_end { comment.start ≤ comment.end }
+    requires room { Room (push_comment (given source.now []) (span comment.start comment.end)) c }
+    ensures { (b : List ℕ) → Laid (push_comment (given source.now b) (span comment.start comment.end)) store.old c store.new result }
 {
-    let trimmed = trim_end(source, start as usize, end as usize);
-    let size = Bytes(trimmed - start as usize);
-    acts::leaves::comment(store, c, start, size)
+    let start = comment.start as usize;
+    let trimmed = trim_end(source, start, comment.end as usize);
+    acts::leaves::comment(store, c, comment.start, Bytes(trimmed - start))
 }
 
 // A line for one newline, an empty line for more. Where the last of them is doesn't matter here.
@@ -92,13 +133,11 @@ fn break_line(store: &mut [u32], c: Cursor, n: Newlines) -> Cursor
     requires { Room (break_line n) c }
     ensures { Laid (break_line n) store.old c store.new result }
 {
-    if n.count == 0 {
-        return c;
+    match n.count {
+        0 => c,
+        1 => line(store, c),
+        _ => empty_line(store, c),
     }
-    if n.count == 1 {
-        return line(store, c);
-    }
-    empty_line(store, c)
 }
 
 // A line for one newline up to the position, an empty line for more; it returns them.
@@ -106,7 +145,11 @@ fn newlines(store: &mut [u32], c: Cursor, source: &[u8], position: u32) -> Count
     requires { Room (step_alone (newlines (given source.now []) position)) c }
     ensures { (b : List ℕ) → LaidAsking (newlines (given source.now b) position) store.old c store.new result.cursor result.newlines }
 {
-    let n = newlines_from(source, c.pos as usize, position as usize);
+    let reading = Reading {
+        source,
+        at: c.pos as usize,
+    };
+    let n = reading.newlines_up_to(position as usize);
     let d = break_line(store, c, n);
     Counted {
         cursor: move_to(d, position),
@@ -120,13 +163,8 @@ fn ignore_newlines(image: &[u8], c: Cursor, position: u32) -> Cursor
     ensures { (s : List ℕ) → result ≡ cursor c.row c.number (ignore_newlines (given s image.now) position (st c)).pos c.placed }
 {
     match front(image, c) {
-        Pending::Nothing => move_to(c, position),
-        Pending::Comment(start, _) => {
-            if position <= start {
-                return move_to(c, position);
-            }
-            move_to(c, start)
-        }
+        None => move_to(c, position),
+        Some(comment) => move_to(c, position.min(comment.start)),
     }
 }
 
@@ -157,17 +195,16 @@ fn pop_comment(
     source: &[u8],
     image: &[u8],
     leading: bool,
-    start: u32,
-    end: u32,
+    comment: Waiting,
 ) -> Cursor
     requires listed { Listed source.now image.now }
-    requires placed_value { nth (comments_of image.now) c.placed ≡ some (span start end) }
-    requires room { Room (pop_comment (given source.now image.now) leading (span start end)) c }
-    ensures { Laid (pop_comment (given source.now image.now) leading (span start end)) store.old c store.new result }
+    requires placed_value { nth (comments_of image.now) c.placed ≡ Some (span comment.start comment.end) }
+    requires room { Room (pop_comment (given source.now image.now) leading (span comment.start comment.end)) c }
+    ensures { Laid (pop_comment (given source.now image.now) leading (span comment.start comment.end)) store.old c store.new result }
 {
     let popped = with_placed(c, c.placed + 1);
-    let d = before_comment(store, popped, source, image, leading, start);
-    push_comment(store, move_to(d, end - 1), source, start, end)
+    let d = before_comment(store, popped, source, image, leading, comment.start);
+    push_comment(store, move_to(d, comment.end - 1), source, comment)
 }
 
 // The loop of `pop_whitespace`: the comments that start before the position.
@@ -185,31 +222,25 @@ fn pop_comments(
 {
     let mut d = c;
     let mut keep = leading;
-    loop {
-        match front(image, d) {
-            Pending::Nothing => return d,
-            Pending::Comment(start, end) => {
-                if position <= start {
-                    return d;
-                }
-                d = pop_comment(store, d, source, image, keep, start, end);
-                keep = true;
-            }
+    while let Some(comment) = front(image, d) {
+        if position <= comment.start {
+            return d;
         }
+        d = pop_comment(store, d, source, image, keep, comment);
+        keep = true;
     }
+    d
 }
 
 // The gap of newlines that were counted, after comments or not.
 fn gap_of(n: Counted, commented: bool) -> Passed
     ensures { (result.cursor ≡ n.cursor) × (result.gap ≡ gap_of commented n.newlines) }
 {
-    let cursor = n.cursor;
-    let newlines = n.newlines;
     Passed {
-        cursor: cursor,
+        cursor: n.cursor,
         gap: Gap {
-            newlines: newlines,
-            commented: commented,
+            newlines: n.newlines,
+            commented,
         },
     }
 }
@@ -234,21 +265,19 @@ fn place_comments(
     source: &[u8],
     image: &[u8],
     position: u32,
-    leading: bool,
-    trailing: bool,
-    only: bool,
+    kept: &Kept,
 ) -> Passed
     requires listed { Listed source.now image.now }
-    requires room { Room (step_alone (pop_whitespace (given source.now image.now) position leading trailing only)) c }
-    ensures { LaidAsking (pop_whitespace (given source.now image.now) position leading trailing only) store.old c store.new result.cursor result.gap }
+    requires room { Room (step_alone (pop_whitespace (given source.now image.now) position kept.now.leading kept.now.trailing kept.now.only)) c }
+    ensures { LaidAsking (pop_whitespace (given source.now image.now) position kept.now.leading kept.now.trailing kept.now.only) store.old c store.new result.cursor result.gap }
 {
     let waiting = is_waiting(image, c, position);
-    let d = pop_comments(store, c, source, image, position, leading);
-    if waiting && trailing {
+    let d = pop_comments(store, c, source, image, position, kept.leading);
+    if waiting && kept.trailing {
         let after = newlines(store, d, source, position);
         return gap_of(after, true);
     }
-    if only {
+    if kept.only {
         let alone = newlines(store, d, source, position);
         return gap_of(alone, false);
     }
@@ -258,27 +287,24 @@ fn place_comments(
     }
 }
 
-// Places the comments that start before the position, and goes there. The flags say which newlines are kept: `preserve_leading_whitespace`,
-// `preserve_trailing_whitespace` and `preserve_only_whitespace` of the Rust. It returns the gap up to the position.
+// Places the comments that start before the position, and goes there. It returns the gap up to the position.
 pub fn pop_whitespace(
     store: &mut [u32],
     c: Cursor,
     source: &[u8],
     image: &[u8],
     position: u32,
-    leading: bool,
-    trailing: bool,
-    only: bool,
+    kept: &Kept,
 ) -> Passed
     requires listed { Listed source.now image.now }
-    requires room { Room (step_alone (pop_whitespace (given source.now image.now) position leading trailing only)) c }
-    ensures { LaidAsking (pop_whitespace (given source.now image.now) position leading trailing only) store.old c store.new result.cursor result.gap }
+    requires room { Room (step_alone (pop_whitespace (given source.now image.now) position kept.now.leading kept.now.trailing kept.now.only)) c }
+    ensures { LaidAsking (pop_whitespace (given source.now image.now) position kept.now.leading kept.now.trailing kept.now.only) store.old c store.new result.cursor result.gap }
 {
-    if only {
-        return place_comments(store, c, source, image, position, leading, trailing, only);
+    if kept.only {
+        return place_comments(store, c, source, image, position, kept);
     }
     if is_waiting(image, c, position) {
-        return place_comments(store, c, source, image, position, leading, trailing, only);
+        return place_comments(store, c, source, image, position, kept);
     }
     Passed {
         cursor: move_to(c, position),
@@ -290,10 +316,7 @@ pub fn pop_whitespace(
 pub fn is_whitespace(gap: Gap) -> bool
     ensures { result ≡ whitespace gap }
 {
-    if gap.commented {
-        return true;
-    }
-    0 < gap.newlines.count
+    gap.commented || 0 < gap.newlines.count
 }
 
 // Places the comment at the front, if it starts at the first place that is not white space or is a newline.
@@ -302,18 +325,20 @@ pub fn pop_trailing_comment(store: &mut [u32], c: Cursor, source: &[u8], image: 
     requires room { Room (pop_trailing_comment (given source.now image.now)) c }
     ensures { Laid (pop_trailing_comment (given source.now image.now)) store.old c store.new result }
 {
-    match front(image, c) {
-        Pending::Nothing => c,
-        Pending::Comment(start, end) => match something_from(source, c.pos as usize) {
-            Found::Nowhere => c,
-            Found::At(place) => {
-                if start as usize != place {
-                    return c;
-                }
-                let popped = with_placed(c, c.placed + 1);
-                let d = push_comment(store, popped, source, start, end);
-                move_to(d, end)
-            }
-        },
+    let Some(comment) = front(image, c) else {
+        return c;
+    };
+    let reading = Reading {
+        source,
+        at: c.pos as usize,
+    };
+    let Some(place) = reading.next_something() else {
+        return c;
+    };
+    if comment.start as usize != place {
+        return c;
     }
+    let popped = with_placed(c, c.placed + 1);
+    let d = push_comment(store, popped, source, comment);
+    move_to(d, comment.end)
 }

@@ -1,7 +1,7 @@
 -- What an accepted call's answer says of the table and of what is due, and what a caller holds after a list of calls.
 -- Assumes nothing.
 use mathlib.Core.Path.{◌≡◌, refl, ap, ◌∙◌}
-use mathlib.Core.Option.{Option, none}
+use Rattle.std.specs.Prelude.{Option, None}
 use mathlib.Core.List.{List, [], ◌∷◌, map}
 use Prim.Native.Nat.{ℕ}
 use Rattle.refusals.specs.Refusals.{Refusal}
@@ -14,7 +14,7 @@ use Rattle.cut_rule.specs.Callers.{after_all, AllKept}
 module _ (R : Rules) where
   -- rows laid out are those due
   pub record LaidBy (o : Option Refusal) (t : R.LayoutState) (l : ℕ) (u : R.LayoutState) (m : ℕ) : Type 0 where
-    pub passes : o ≡ none
+    pub passes : o ≡ None
     pub state : t ≡ u
     pub left : l ≡ m
 
@@ -28,7 +28,7 @@ module _ (R : Rules) where
 
   -- text written is that due
   pub record WrittenBy (o : Option Refusal) (n m : ℕ) : Type 0 where
-    pub passes : o ≡ none
+    pub passes : o ≡ None
     pub bytes : n ≡ m
 
   pub written_by : (o : Option Refusal) (t : R.RenderState) (n : ℕ) (u : R.RenderState) (m : ℕ)

@@ -2,7 +2,7 @@
 -- Assumes nothing but the laws of the parts.
 use mathlib.Core.Path.{◌≡◌, sym, ap, ap₂, subst, ◌∙◌}
 use mathlib.Core.Bool.{Bool, true, false}
-use mathlib.Core.Option.{none}
+use Rattle.std.specs.Prelude.{None}
 use mathlib.Core.List.{List, ◌++◌}
 use Prim.Native.Nat.{ℕ, zero, suc, ◌+◌, ◌-◌, ◌*◌, ◌≤◌, ◌<◌}
 use native.Mathlib.Nat.{sub-zero}
@@ -52,7 +52,7 @@ laying_then listed c p g u v =
       };
     }
 
-module _ (P : RuleParts) (L : LayoutPartLaws P) (listed : List Text) (K : CommentPartLaws P listed) (image : P.layout_image ≡ none) where
+module _ (P : RuleParts) (L : LayoutPartLaws P) (listed : List Text) (K : CommentPartLaws P listed) (image : P.layout_image ≡ None) where
   abbrev c₀ : Cursor
   c₀ = layout_fresh.cursor
 
@@ -77,7 +77,7 @@ module _ (P : RuleParts) (L : LayoutPartLaws P) (listed : List Text) (K : Commen
   laying_due q h = subst (Laying listed c₀) (sym (from_fresh P q)) (laying_end q.choice q.close q.stop h)
 
 module _ (P : RuleParts) (L : LayoutPartLaws P) (listed : List Text) (K : CommentPartLaws P listed) where
-  first_placed : (q : LayoutArgs LayoutChoice) → P.layout_image ≡ none → q.stop ≤ P.declarations
+  first_placed : (q : LayoutArgs LayoutChoice) → P.layout_image ≡ None → q.stop ≤ P.declarations
       → comments_in (call_piece P layout_fresh q).rows (call_piece P layout_fresh q).cursor.row ≡ take (call_piece P layout_fresh q).cursor.placed listed
   first_placed q image h =
       let p = call_piece P layout_fresh q in

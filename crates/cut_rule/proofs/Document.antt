@@ -1,7 +1,7 @@
 -- Demand 3 for document 01's states and table: what the parts owe gives the laws, and the laws the rule.
 -- Assumes nothing but the laws of the parts.
 use mathlib.Core.Path.{◌≡◌}
-use mathlib.Core.Option.{Option, none, some}
+use Rattle.std.specs.Prelude.{Option, None, Some}
 use mathlib.Core.List.{List}
 use Prim.Native.Nat.{ℕ, ◌*◌, ◌≤◌}
 use lib.ListN.{length}
@@ -34,12 +34,12 @@ parts_cut P listed L D K store₀ marks₀ calls a = record {
 -- the arguments of the last accepted layout call fit; and the rows before the rendering stop are laid out, and 11 lets them pass
 module _ (P : RuleParts) (L : LayoutPartLaws P) (D : RenderPartLaws P) where
   abbrev pub LaidFits : Option (LayoutArgs LayoutChoice) → Type 0
-  LaidFits none = Unit {0}
-  LaidFits (some q) = FitsParts P L q
+  LaidFits None = Unit {0}
+  LaidFits (Some q) = FitsParts P L q
 
   abbrev pub RenderedRight : List ℕ → Option (RenderTo RenderChoice) → Type 0
-  RenderedRight rows none = Unit {0}
-  RenderedRight rows (some p) = (PLACES * p.stop ≤ length rows) × (P.wrong_row p.choice rows 0 p.stop ≡ none)
+  RenderedRight rows None = Unit {0}
+  RenderedRight rows (Some p) = (PLACES * p.stop ≤ length rows) × (P.wrong_row p.choice rows 0 p.stop ≡ None)
 
   pub record CameTo (f : Progress (rules P)) : Type 0 where
     pub laid : LaidFits f.laid_to_of
@@ -53,9 +53,9 @@ module _ (P : RuleParts) (L : LayoutPartLaws P) (D : RenderPartLaws P) where
       record { laid = fits f.laid_to_of k.laid_ok; rendered = right (laid_due (rules P) f).rows f.rendered_to k.rendered_ok }
     where
       fits : (o : Option (LayoutArgs LayoutChoice)) → LaidOk (rules P) (layout_laws P L) (render_laws P D) o → LaidFits o
-      fits none k = tt
-      fits (some q) k = fitting P L q k
+      fits None k = tt
+      fits (Some q) k = fitting P L q k
 
       right : (rows : List ℕ) (o : Option (RenderTo RenderChoice)) → RenderedOk (rules P) (layout_laws P L) (render_laws P D) rows o → RenderedRight rows o
-      right rows none k = tt
-      right rows (some p) k = (k.0, (whole P D p.choice rows p.stop k.1).right)
+      right rows None k = tt
+      right rows (Some p) k = (k.0, (whole P D p.choice rows p.stop k.1).right)

@@ -2,7 +2,7 @@
 -- field is the same.
 -- Assumes nothing.
 use mathlib.Core.Path.{◌≡◌, refl, ap}
-use mathlib.Core.Option.{Option, none, some}
+use Rattle.std.specs.Prelude.{Option, None, Some}
 use mathlib.Core.List.{List, ◌++◌, append-nil}
 use Prim.Native.Nat.{ℕ, ◌*◌}
 use lib.ListN.{length, drop}
@@ -26,8 +26,8 @@ module _ (R : Rules) (w : Carried R) (out : List ℕ) where
         text = w.text;
         left = left_next R (answer_by o (laid_out (R.layout w.layout_state_of q).state (R.layout w.layout_state_of q).left)) w.left;
       }) (unless o w (accepted R w (layout_call q)))
-      go (some r) = refl
-      go none = refl
+      go (Some r) = refl
+      go None = refl
 
   abbrev with_text : Carried R → List ℕ → Carried R
   with_text v t = record { store = v.store; marks = v.marks; layout_state_of = v.layout_state_of; render_state_of = v.render_state_of; text = t; left = v.left }
@@ -49,8 +49,8 @@ module _ (R : Rules) (w : Carried R) (out : List ℕ) where
         text = w.text ++ written_of R (answer_by o (written new.render_state_of (length txt))) (unless o out (write_front txt out));
         left = w.left;
       }) (unless o w (accepted R w (render_call q)))
-      go (some r) = ap (with_text w) (append-nil w.text)
-      go none = ap (λ (t : List ℕ). with_text new (w.text ++ t)) (take-append_seam txt (drop (length txt) out))
+      go (Some r) = ap (with_text w) (append-nil w.text)
+      go None = ap (λ (t : List ℕ). with_text new (w.text ++ t)) (take-append_seam txt (drop (length txt) out))
 
   pub entries_are_calls : (c : Call R) → entry_call R w out c ≡ call R w c
   entries_are_calls (layout_call q) = layout_same q

@@ -3,7 +3,7 @@
 -- Assumes nothing.
 use mathlib.Core.Path.{◌≡◌, refl, sym, ap, ap₂, ◌∙◌}
 use mathlib.Core.Bool.{Bool, true, false}
-use mathlib.Core.Option.{Option, none, some}
+use Rattle.std.specs.Prelude.{Option, None, Some}
 use mathlib.Core.List.{List, [], ◌∷◌, ◌++◌}
 use Prim.Native.Nat.{ℕ, zero, suc, ◌+◌, ◌-◌, ◌*◌, ◌≤◌, ◌<◌}
 use native.Mathlib.Omega.{arith}
@@ -44,16 +44,16 @@ line c = record {
 }
 
 abbrev in_store : Bool → Option ℕ
-in_store true = none
-in_store false = some 0
+in_store true = None
+in_store false = Some 0
 
 abbrev small : RuleParts
 small = record {
   source_size = 100;
   declarations = 2;
   comments = 2;
-  layout_image = none;
-  render_image_of = λ c. none;
+  layout_image = None;
+  render_image_of = λ c. None;
   shebang = λ k c. record { cursor = c; rows = [] };
   declaration = λ k n c. placing (ltb c.placed 2) c;
   final = λ k. line;
@@ -106,14 +106,14 @@ comment_parts = record {
   };
 }
 
-stop_in : (n : ℕ) (store : List ℕ) → in_store (leb (PLACES * n) (length store)) ≡ none → PLACES * n ≤ length store
+stop_in : (n : ℕ) (store : List ℕ) → in_store (leb (PLACES * n) (length store)) ≡ None → PLACES * n ≤ length store
 stop_in n store e = go (leb (PLACES * n) (length store)) refl e
   where
-    go : (b : Bool) → leb (PLACES * n) (length store) ≡ b → in_store b ≡ none → PLACES * n ≤ length store
+    go : (b : Bool) → leb (PLACES * n) (length store) ≡ b → in_store b ≡ None → PLACES * n ≤ length store
     go true g f = leb-true (PLACES * n) (length store) g
     go false g f = let z : ◌≡◌ {A = ℕ} 0 1 = cc in absurd (omega arith)
 
-right_in : (n : ℕ) (store : List ℕ) → PLACES * n ≤ length store → in_store (leb (PLACES * n) (length store)) ≡ none
+right_in : (n : ℕ) (store : List ℕ) → PLACES * n ≤ length store → in_store (leb (PLACES * n) (length store)) ≡ None
 right_in n store h = ap in_store (le-leb (PLACES * n) (length store) h)
 
 parts_join : (store : List ℕ) (n m : ℕ) → n ≤ m

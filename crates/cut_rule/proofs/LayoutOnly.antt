@@ -1,7 +1,7 @@
 -- Layout goes its way whatever is rendered between: a list of calls leaves store, layout state and comments left as its layout calls alone do.
 -- Assumes nothing.
 use mathlib.Core.Path.{◌≡◌, ap, ap₂, subst}
-use mathlib.Core.Option.{Option, none, some}
+use Rattle.std.specs.Prelude.{Option, None, Some}
 use mathlib.Core.List.{List, [], ◌∷◌}
 use Prim.Native.Nat.{ℕ, ◌*◌}
 use Rattle.rows.specs.Places.{PLACES}
@@ -30,19 +30,19 @@ module _ (R : Rules) where
       (go (refusal R w (layout_call q)))
     where
       go : (o : Option Refusal) → SameLayout (unless o w (accepted R w (layout_call q))) (unless o v (accepted R v (layout_call q)))
-      go (some r) = h
-      go none = record {
+      go (Some r) = h
+      go None = record {
         store = ap₂ (λ (s : R.LayoutState) (m : List ℕ). write_at (PLACES * R.next_row s) (R.layout s q).rows m) h.state h.store;
         state = ap (λ (s : R.LayoutState). (R.layout s q).state) h.state;
-        left = ap (λ (s : R.LayoutState). some (R.layout s q).left) h.state;
+        left = ap (λ (s : R.LayoutState). Some (R.layout s q).left) h.state;
       }
 
   after_rendering : (w v : Carried R) (q : RenderArgs R.RenderChoice) → SameLayout w v → SameLayout (call R w (render_call q)) v
   after_rendering w v q h = go (refusal R w (render_call q))
     where
       go : (o : Option Refusal) → SameLayout (unless o w (accepted R w (render_call q))) v
-      go (some r) = h
-      go none = record { store = h.store; state = h.state; left = h.left }
+      go (Some r) = h
+      go None = record { store = h.store; state = h.state; left = h.left }
 
   pub layout_only : (calls : List (Call R)) (w v : Carried R) → SameLayout w v → SameLayout (run R w calls) (run R v (layouts calls))
   layout_only [] w v h = h

@@ -3,7 +3,7 @@
 -- Assumes nothing but the laws of the parts.
 use mathlib.Core.Path.{◌≡◌, refl, sym, ap, ◌∙◌}
 use mathlib.Core.Bool.{Bool, true, false}
-use mathlib.Core.Option.{none}
+use Rattle.std.specs.Prelude.{None}
 use mathlib.Core.List.{List, ◌++◌, append-nil, append_assoc}
 use Prim.Native.Nat.{ℕ, zero, suc, ◌+◌, ◌-◌, ◌*◌, ◌≤◌}
 use native.Mathlib.Nat.{sub-zero, zero-add, suc-add}
@@ -79,7 +79,7 @@ module _ (P : RuleParts) where
   stopped p e = from_fresh p ∙ ap (λ (b : Bool). end P p.choice b (up_to p.choice p.stop)) e
 
   -- ---- the next row counts the rows
-  module _ (L : LayoutPartLaws P) (image : P.layout_image ≡ none) where
+  module _ (L : LayoutPartLaws P) (image : P.layout_image ≡ None) where
     counts_several : (k : LayoutChoice) (n d : ℕ) (c : Cursor) (p : Piece) → d + n ≤ P.declarations → Counts c p → Counts c (several P k n d p)
     counts_several k zero d c p h u = u
     counts_several k (suc n) d c p h u =
@@ -105,7 +105,7 @@ module _ (P : RuleParts) where
 
   module _ (L : LayoutPartLaws P) where
     pub record FitsParts (q : LayoutArgs LayoutChoice) : Type 0 where
-      pub image : P.layout_image ≡ none
+      pub image : P.layout_image ≡ None
       pub to : q.stop ≤ P.declarations
       pub closes_at_end : q.close ≡ true → q.stop ≡ P.declarations
 
@@ -149,7 +149,7 @@ module _ (P : RuleParts) where
     unfolding layout_laws
     fitting q k = k
 
-    pub rows_fit : (q : LayoutArgs LayoutChoice) (s : LayoutState) (store : List ℕ) → first (layout_table P q s store) ≡ none
+    pub rows_fit : (q : LayoutArgs LayoutChoice) (s : LayoutState) (store : List ℕ) → first (layout_table P q s store) ≡ None
         → PLACES * s.cursor.row + length (call_piece P s q).rows ≤ length store
     rows_fit q s store e =
         let t = layout_told P q s store e in

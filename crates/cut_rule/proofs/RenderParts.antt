@@ -3,7 +3,7 @@
 -- Assumes nothing but the laws of the parts.
 use mathlib.Core.Path.{◌≡◌, refl, sym, ap, ap₂, ◌∙◌}
 use mathlib.Core.Bool.{Bool, true, false, not, ◌&&◌}
-use mathlib.Core.Option.{none}
+use Rattle.std.specs.Prelude.{None}
 use mathlib.Core.List.{List, [], ◌++◌}
 use Prim.Native.Nat.{ℕ, ◌+◌, ◌-◌, max}
 use native.Mathlib.Omega.{arith}
@@ -58,8 +58,8 @@ module _ (P : RuleParts) (D : RenderPartLaws P) where
           ap (λ (k : ℕ). P.draw s q (with_cleared P marks k) store) h
           ∙ D.draw_local s q (with_cleared P marks (P.needed other s.row q.stop)) store other e
 
-  module _ (p q : RenderTo RenderChoice) (store : List ℕ) (a : RenderAfter p q) (right₁ : P.wrong_row p.choice store 0 p.stop ≡ none)
-      (right₂ : P.wrong_row q.choice store 0 q.stop ≡ none) where
+  module _ (p q : RenderTo RenderChoice) (store : List ℕ) (a : RenderAfter p q) (right₁ : P.wrong_row p.choice store 0 p.stop ≡ None)
+      (right₂ : P.wrong_row q.choice store 0 q.stop ≡ None) where
     -- the marks that rows before p's stop, between the stops, and before q's need
     abbrev before : ℕ
     before = P.needed store 0 p.stop
@@ -111,7 +111,7 @@ module _ (P : RuleParts) (D : RenderPartLaws P) where
   -- a call can choose the width, and the rows before row n are right
   pub record Whole (c : RenderChoice) (rows : List ℕ) (n : ℕ) : Type 0 where
     pub legal : LegalWidth c.width
-    pub right : P.wrong_row c rows 0 n ≡ none
+    pub right : P.wrong_row c rows 0 n ≡ None
 
   pub render_laws : RenderLaws (rules P)
   render_laws = record {

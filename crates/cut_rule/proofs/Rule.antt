@@ -2,7 +2,7 @@
 -- Assumes nothing but the laws.
 use mathlib.Core.Path.{◌≡◌, refl, sym, ap, subst, ◌∙◌}
 use mathlib.Core.Logic.{◌↔◌}
-use mathlib.Core.Option.{Option, none, some}
+use Rattle.std.specs.Prelude.{Option, None, Some}
 use mathlib.Core.List.{List, [], ◌∷◌}
 use Prim.Native.Nat.{ℕ, ◌*◌}
 use native.Mathlib.Omega.{arith}
@@ -98,18 +98,18 @@ module _ (R : Rules) (L : LayoutLaws R) (D : RenderLaws R) where
   -- ---- the comments
   module _ (listed : List Text) (K : CommentLaws R L listed) where
     kept_due : (s m : List ℕ) (o : Option (LayoutArgs R.LayoutChoice)) (d : Option (RenderTo R.RenderChoice)) → LaidOk R L D o
-        → (n : ℕ) → left_due R o ≡ some n → CommentsKept R listed (due R s m (record { laid_to_of = o; rendered_to = d })) n
-    kept_due s m none d k n e = let z : ◌≡◌ {A = ℕ} 0 1 = cc in absurd (omega arith)
-    kept_due s m (some q) d k n e =
-        let rows = (layout_due R (some q)).rows in
-        let r : PLACES * R.next_row (layout_due R (some q)).state ≡ length rows = L.due_row q k in
+        → (n : ℕ) → left_due R o ≡ Some n → CommentsKept R listed (due R s m (record { laid_to_of = o; rendered_to = d })) n
+    kept_due s m None d k n e = let z : ◌≡◌ {A = ℕ} 0 1 = cc in absurd (omega arith)
+    kept_due s m (Some q) d k n e =
+        let rows = (layout_due R (Some q)).rows in
+        let r : PLACES * R.next_row (layout_due R (Some q)).state ≡ length rows = L.due_row q k in
         record {
-          first = comments_before (R.next_row (layout_due R (some q)).state) rows (drop (length rows) s) (omega arith) ∙ K.first_placed q k;
-          others = (let h : (layout_due R (some q)).left ≡ n = cc in sym h ∙ K.rest_left q k);
+          first = comments_before (R.next_row (layout_due R (Some q)).state) rows (drop (length rows) s) (omega arith) ∙ K.first_placed q k;
+          others = (let h : (layout_due R (Some q)).left ≡ n = cc in sym h ∙ K.rest_left q k);
         }
 
     pub comments_kept : (store₀ marks₀ : List ℕ) (calls : List (Call R)) → AllReadLaid R (start R store₀ marks₀) calls
-        → (n : ℕ) → (run R (start R store₀ marks₀) calls).left ≡ some n → CommentsKept R listed (run R (start R store₀ marks₀) calls) n
+        → (n : ℕ) → (run R (start R store₀ marks₀) calls).left ≡ Some n → CommentsKept R listed (run R (start R store₀ marks₀) calls) n
     comments_kept store₀ marks₀ calls a n e =
         let t = cut_rule store₀ marks₀ calls a in
         let f = plain R store₀ marks₀ (at_first R) calls in
@@ -131,8 +131,8 @@ module _ (R : Rules) (M : RoomLaws R) where
   room_call w c = go (refusal R w c) refl
     where
       go : (o : Option Refusal) → refusal R w c ≡ o → SameRoom R (unless o w (accepted R w c)) w
-      go (some n) e = record { store_same = refl; marks_same = refl }
-      go none e = room_accepted w c e
+      go (Some n) e = record { store_same = refl; marks_same = refl }
+      go None e = room_accepted w c e
 
   pub same_room : (w : Carried R) (cs : List (Call R)) → SameRoom R (run R w cs) w
   same_room w [] = record { store_same = refl; marks_same = refl }

@@ -2,7 +2,7 @@
 -- rows behind leave the rendering of those before a stop as it was; for rendering it is `goes_on` of rendering, and the rows read are laid out.
 -- Assumes nothing but the laws.
 use mathlib.Core.Path.{◌≡◌, refl, sym, ap, subst, ◌∙◌}
-use mathlib.Core.Option.{Option, none, some}
+use Rattle.std.specs.Prelude.{Option, None, Some}
 use mathlib.Core.List.{List, [], ◌++◌}
 use Prim.Native.Nat.{ℕ, ◌-◌, ◌*◌, ◌≤◌, ◌<◌}
 use native.Mathlib.Omega.{arith}
@@ -26,13 +26,13 @@ module _ (R : Rules) (L : LayoutLaws R) (D : RenderLaws R) where
 
   -- ---- what stays true on the way
   abbrev pub LaidOk : LaidTo → Type 0
-  LaidOk none = Unit {0}
-  LaidOk (some p) = L.Fits p
+  LaidOk None = Unit {0}
+  LaidOk (Some p) = L.Fits p
 
   -- the rows before the rendering stop are laid out and whole
   abbrev pub RenderedOk : List ℕ → ShownTo → Type 0
-  RenderedOk rows none = Unit {0}
-  RenderedOk rows (some p) = (PLACES * p.stop ≤ length rows) × D.WholeRows p.choice rows p.stop
+  RenderedOk rows None = Unit {0}
+  RenderedOk rows (Some p) = (PLACES * p.stop ≤ length rows) × D.WholeRows p.choice rows p.stop
 
   pub record ProgressOk (f : Progress R) : Type 0 where
     pub laid_ok : LaidOk f.laid_to_of
@@ -40,25 +40,25 @@ module _ (R : Rules) (L : LayoutLaws R) (D : RenderLaws R) where
 
   -- ---- layout
   laid_row : (o : LaidTo) → LaidOk o → PLACES * R.next_row (layout_due R o).state ≡ length (layout_due R o).rows
-  laid_row none k = ap (λ (n : ℕ). PLACES * n) L.fresh_row
-  laid_row (some p) k = L.due_row p k
+  laid_row None k = ap (λ (n : ℕ). PLACES * n) L.fresh_row
+  laid_row (Some p) k = L.due_row p k
 
   laid_on : (o : LaidTo) (q : LayoutArgs R.LayoutChoice) (store : List ℕ) → LaidOk o
-      → R.layout_refusal q (layout_due R o).state store ≡ none
+      → R.layout_refusal q (layout_due R o).state store ≡ None
       → R.layout R.layout_fresh_of q ≡ then_laid (layout_due R o) (λ s. R.layout s q)
-  laid_on none q store k e = refl
-  laid_on (some p) q store k e = L.goes_on p q k (L.accepted_fits q _ store e) (L.accepted_after p q store k e)
+  laid_on None q store k e = refl
+  laid_on (Some p) q store k e = L.goes_on p q k (L.accepted_fits q _ store e) (L.accepted_after p q store k e)
 
   -- more rows behind do not change what the rows before the rendering stop give
   rendered_more : (o : ShownTo) (rows more : List ℕ) → RenderedOk rows o
       → render_due R (rows ++ more) o ≡ render_due R rows o
-  rendered_more none rows more k = refl
-  rendered_more (some p) rows more k =
+  rendered_more None rows more k = refl
+  rendered_more (Some p) rows more k =
       D.render_local R.render_fresh_of p [] (rows ++ more) rows (same_before p.stop rows more k.0)
 
   rendered_ok_more : (o : ShownTo) (rows more : List ℕ) → RenderedOk rows o → RenderedOk (rows ++ more) o
-  rendered_ok_more none rows more k = tt
-  rendered_ok_more (some p) rows more k = (
+  rendered_ok_more None rows more k = tt
+  rendered_ok_more (Some p) rows more k = (
     omega (arith, length-append rows more, k.0),
     D.whole_local p.choice rows (rows ++ more) p.stop (sym (same_before p.stop rows more k.0)) k.1,
   )
@@ -84,7 +84,7 @@ module _ (R : Rules) (L : LayoutLaws R) (D : RenderLaws R) where
 
       filled : List ℕ → LayoutResult R.LayoutState → RenderResult R.RenderState → Carried R
       filled st l d =
-          record { store = st; marks = write_front d.marks m; layout_state_of = l.state; render_state_of = d.state; text = d.text; left = some l.left }
+          record { store = st; marks = write_front d.marks m; layout_state_of = l.state; render_state_of = d.state; text = d.text; left = Some l.left }
 
       made : LayoutResult R.LayoutState → RenderResult R.RenderState → Carried R
       made l d = filled (write_front l.rows s) l d
@@ -99,34 +99,34 @@ module _ (R : Rules) (L : LayoutLaws R) (D : RenderLaws R) where
 
   -- ---- rendering
   abbrev stop_of : ShownTo → ℕ
-  stop_of none = 0
-  stop_of (some p) = p.stop
+  stop_of None = 0
+  stop_of (Some p) = p.stop
 
   rendered_row : (rows : List ℕ) (o : ShownTo) → RenderedOk rows o → R.reads_from (render_due R rows o).state ≡ stop_of o
-  rendered_row rows none k = D.fresh_row
-  rendered_row rows (some p) k = D.due_row p rows k.1
+  rendered_row rows None k = D.fresh_row
+  rendered_row rows (Some p) k = D.due_row p rows k.1
 
   rendered_use : (rows : List ℕ) (o : ShownTo) → RenderedOk rows o
       → R.in_use (render_due R rows o).state ≡ length (render_due R rows o).marks
-  rendered_use rows none k = D.fresh_use
-  rendered_use rows (some p) k = D.due_use p rows k.1
+  rendered_use rows None k = D.fresh_use
+  rendered_use rows (Some p) k = D.due_use p rows k.1
 
   rendered_laid : (rows : List ℕ) (o : ShownTo) → RenderedOk rows o → PLACES * stop_of o ≤ length rows
-  rendered_laid rows none k = omega arith
-  rendered_laid rows (some p) k = k.0
+  rendered_laid rows None k = omega arith
+  rendered_laid rows (Some p) k = k.0
 
   -- the rows rendered so far are whole under the choice of the next accepted call
   rendered_whole : (rows : List ℕ) (o : ShownTo) (q : RenderArgs R.RenderChoice) (store marks : List ℕ) → RenderedOk rows o
-      → R.render_refusal q (render_due R rows o).state store marks ≡ none → D.WholeRows q.to.choice rows (stop_of o)
-  rendered_whole rows none q store marks k e = D.whole_local q.to.choice store rows 0 refl (D.accepted_none q _ store marks e)
-  rendered_whole rows (some p) q store marks k e =
+      → R.render_refusal q (render_due R rows o).state store marks ≡ None → D.WholeRows q.to.choice rows (stop_of o)
+  rendered_whole rows None q store marks k e = D.whole_local q.to.choice store rows 0 refl (D.accepted_none q _ store marks e)
+  rendered_whole rows (Some p) q store marks k e =
       subst (λ (c : R.RenderChoice). D.WholeRows c rows p.stop) (D.accepted_same p rows q store marks k.1 e) k.1
 
   rendered_on : (rows : List ℕ) (o : ShownTo) (q : RenderArgs R.RenderChoice) (store marks : List ℕ) → RenderedOk rows o
-      → R.render_refusal q (render_due R rows o).state store marks ≡ none → stop_of o ≤ q.to.stop → D.WholeRows q.to.choice rows q.to.stop
+      → R.render_refusal q (render_due R rows o).state store marks ≡ None → stop_of o ≤ q.to.stop → D.WholeRows q.to.choice rows q.to.stop
       → R.render R.render_fresh_of q.to [] rows ≡ then_rendered (render_due R rows o) (λ s ms. R.render s q.to ms rows)
-  rendered_on rows none q store marks k e h w = refl
-  rendered_on rows (some p) q store marks k e h w =
+  rendered_on rows None q store marks k e h w = refl
+  rendered_on rows (Some p) q store marks k e h w =
       D.goes_on p q.to rows (record { not_past = h; same = D.accepted_same p rows q store marks k.1 e }) k.1 w
 
   module _ (s m : List ℕ) (f : Progress R) (q : RenderArgs R.RenderChoice) (k : ProgressOk f) (e : IsAccepted R (due R s m f) (render_call q))
@@ -204,5 +204,5 @@ module _ (R : Rules) (L : LayoutLaws R) (D : RenderLaws R) where
       go : (o : Option Refusal) → refusal R (due R s m f) c ≡ o
           → (unless o (due R s m f) (accepted R (due R s m f) c) ≡ due R s m (unless o f (onward R f c)))
           × ProgressOk (unless o f (onward R f c))
-      go (some n) e = (refl, k)
-      go none e = step s m f c k e (r e)
+      go (Some n) e = (refl, k)
+      go None e = step s m f c k e (r e)

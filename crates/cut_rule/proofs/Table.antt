@@ -2,7 +2,7 @@
 -- Assumes nothing.
 use mathlib.Core.Path.{◌≡◌, refl, sym}
 use mathlib.Core.Bool.{Bool, true, false, not, ◌&&◌, ◌||◌}
-use mathlib.Core.Option.{none}
+use Rattle.std.specs.Prelude.{None}
 use mathlib.Core.List.{List, [], ◌∷◌, ◌++◌}
 use Prim.Native.Nat.{ℕ, ◌≤◌}
 use borrow.Author.Tests.{ltb-false, eqb-true, not-false}
@@ -199,11 +199,11 @@ width_fits width carried e =
 -- ---- the lines
 module _ (P : RuleParts) where
   pub record LayoutTold (q : LayoutArgs LayoutChoice) (s : LayoutState) (store : List ℕ) : Type 0 where
-    pub image : P.layout_image ≡ none
+    pub image : P.layout_image ≡ None
     pub fits : LayoutFits P.declarations P.comments P.source_size (rows_in store) q s
     pub room : rows_needed P q s ≤ rows_in store
 
-  pub layout_told : (q : LayoutArgs LayoutChoice) (s : LayoutState) (store : List ℕ) → first (layout_table P q s store) ≡ none
+  pub layout_told : (q : LayoutArgs LayoutChoice) (s : LayoutState) (store : List ℕ) → first (layout_table P q s store) ≡ None
       → LayoutTold q s store
   layout_told q s store e =
       let needs = rows_needed P q s in
@@ -222,11 +222,11 @@ module _ (P : RuleParts) where
 
   -- what the lines before 9 tell
   pub record RenderChecked (q : RenderArgs RenderChoice) (s : RenderState) (store marks : List ℕ) : Type 0 where
-    pub right : P.wrong_row q.to.choice store s.row q.to.stop ≡ none
+    pub right : P.wrong_row q.to.choice store s.row q.to.stop ≡ None
     pub fits : RenderFits q s store marks
     pub width : WidthFits q.to.choice.width s.width
 
-  pub render_checked : (q : RenderArgs RenderChoice) (s : RenderState) (store marks : List ℕ) → first (before_marks P q s store marks) ≡ none
+  pub render_checked : (q : RenderArgs RenderChoice) (s : RenderState) (store marks : List ℕ) → first (before_marks P q s store marks) ≡ None
       → RenderChecked q s store marks
   render_checked q s store marks e =
       let c = q.to.choice in
@@ -249,7 +249,7 @@ module _ (P : RuleParts) where
     pub checked : RenderChecked q s store marks
     pub marks_enough : marks_for P q s store ≤ length marks
 
-  pub before_told : (q : RenderArgs RenderChoice) (s : RenderState) (store marks : List ℕ) → first (before_text P q s store marks) ≡ none
+  pub before_told : (q : RenderArgs RenderChoice) (s : RenderState) (store marks : List ℕ) → first (before_text P q s store marks) ≡ None
       → RenderTold q s store marks
   before_told q s store marks e =
       let needs = marks_for P q s store in
@@ -260,6 +260,6 @@ module _ (P : RuleParts) where
         marks_enough = ltb-false (length marks) needs (not_if (ltb (length marks) needs) 9 needs (passes_line line-9 [] behind));
       }
 
-  pub render_told : (q : RenderArgs RenderChoice) (s : RenderState) (store marks : List ℕ) → first (render_table P q s store marks) ≡ none
+  pub render_told : (q : RenderArgs RenderChoice) (s : RenderState) (store marks : List ℕ) → first (render_table P q s store marks) ≡ None
       → RenderTold q s store marks
   render_told q s store marks e = before_told q s store marks (passes_left (before_text P q s store marks) (text_line P q s store marks) e)

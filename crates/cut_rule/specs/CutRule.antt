@@ -4,8 +4,7 @@
 -- Laying out everything at the first call does not meet it: the list may end there, and then the store still holds, past the rows due at that
 -- call's stop, what it held at first, whatever that was. Refusing everything does not either: the rule by itself would hold of a table that
 -- refuses everything, but the table in Parts.antt is document 01's, and by their contracts (Entries.antt) the calls answer as it says.
-use Rattle.std.specs.Prelude.{◌≡◌, cond, List, [], ◌∷◌, ◌++◌, ℕ, zero, suc, eqb, length, take, drop}
-use Rattle.std.proofs.Math.Option.{some}
+use Rattle.std.specs.Prelude.{◌≡◌, cond, List, [], ◌∷◌, ◌++◌, ℕ, zero, suc, eqb, length, take, drop, Some}
 use Rattle.rows.specs.Kinds.{COMMENT}
 use Rattle.rows.specs.Places.{KIND, ORIGIN, START, SIZE}
 use Rattle.rows.specs.Node.{Text}
@@ -40,6 +39,6 @@ module _ (R : Rules) where
     -- every answer, refusals with their places included
     pub answered : answers R (start R store₀ marks₀) calls ≡ answers_due R store₀ marks₀ (at_first R) calls
     -- once a layout call is accepted
-    pub comments : (n : ℕ) → (run R (start R store₀ marks₀) calls).left ≡ some n → CommentsKept listed (run R (start R store₀ marks₀) calls) n
+    pub comments : (n : ℕ) → (run R (start R store₀ marks₀) calls).left ≡ Some n → CommentsKept listed (run R (start R store₀ marks₀) calls) n
     -- store and marks keep their length
     pub room : SameRoom (run R (start R store₀ marks₀) calls) (start R store₀ marks₀)

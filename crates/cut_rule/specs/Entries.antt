@@ -1,7 +1,6 @@
 -- What the contracts of the two public calls say, each of one call alone, and what their caller hands on. `entry_call` is the `call` of Run.antt
 -- (proofs/Entries.antt), so that the cut rule is a rule on functions with these contracts.
-use Rattle.std.proofs.Math.Option.{Option, some}
-use Rattle.std.specs.Prelude.{List, [], ◌++◌, ℕ, ◌*◌, length, take}
+use Rattle.std.specs.Prelude.{List, [], ◌++◌, ℕ, ◌*◌, length, take, Option, Some}
 use Rattle.rows.specs.Places.{PLACES}
 use Rattle.cut_rule.specs.Rules.{LayoutArgs, RenderArgs, RenderResult, Rules}
 use Rattle.refusals.specs.Refusals.{unless}
@@ -43,7 +42,7 @@ module _ (R : Rules) where
 
   abbrev pub left_next : Answer (CallResult R) → Option ℕ → Option ℕ
   left_next (refused r) l = l
-  left_next (accepted (laid_out t n)) l = some n
+  left_next (accepted (laid_out t n)) l = Some n
   left_next (accepted (written t n)) l = l
 
   abbrev pub written_of : Answer (CallResult R) → List ℕ → List ℕ

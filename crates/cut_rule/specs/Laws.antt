@@ -1,6 +1,5 @@
 -- What the cut rule needs of the rules and of the table. How layout and rendering go on is asked only of states that are due.
-use Rattle.std.specs.Prelude.{◌≡◌, false, List, [], ◌++◌, ℕ, ◌+◌, ◌*◌, ◌≤◌, length, take, drop}
-use Rattle.std.proofs.Math.Option.{none}
+use Rattle.std.specs.Prelude.{◌≡◌, false, List, [], ◌++◌, ℕ, ◌+◌, ◌*◌, ◌≤◌, length, take, drop, None}
 use Rattle.rows.specs.Places.{PLACES}
 use Rattle.cut_rule.specs.Rules.{LayoutArgs, RenderTo, RenderArgs, LayoutResult, RenderResult, Rules}
 use Rattle.rows.specs.Node.{Text}
@@ -33,9 +32,9 @@ pub record LayoutLaws (R : Rules) : Type 1 where
   -- the arguments fit this source and image: 1 to 7 do not refuse, and the stop is at most the number of declarations
   pub Fits : LayoutArgs R.LayoutChoice → Type 0
   -- from the table
-  pub accepted_fits : (q : LayoutArgs R.LayoutChoice) (s : R.LayoutState) (store : List ℕ) → R.layout_refusal q s store ≡ none → Fits q
+  pub accepted_fits : (q : LayoutArgs R.LayoutChoice) (s : R.LayoutState) (store : List ℕ) → R.layout_refusal q s store ≡ None → Fits q
   pub accepted_after : (p q : LayoutArgs R.LayoutChoice) (store : List ℕ) → Fits p
-      → R.layout_refusal q (R.layout R.layout_fresh_of p).state store ≡ none → LayoutAfter p q
+      → R.layout_refusal q (R.layout R.layout_fresh_of p).state store ≡ None → LayoutAfter p q
   -- the next row is the number of rows laid out
   pub fresh_row : R.next_row R.layout_fresh_of ≡ 0
   pub due_row : (p : LayoutArgs R.LayoutChoice) → Fits p
@@ -53,14 +52,14 @@ pub record RenderLaws (R : Rules) : Type 1 where
   pub WholeRows : R.RenderChoice → List ℕ → ℕ → Type 0
   -- from the table: 11, read from the next row on "as if none stood ahead"; 12, the next row past the stop; a choice that differs
   pub accepted_none : (q : RenderArgs R.RenderChoice) (s : R.RenderState) (store marks : List ℕ)
-      → R.render_refusal q s store marks ≡ none → WholeRows q.to.choice store 0
+      → R.render_refusal q s store marks ≡ None → WholeRows q.to.choice store 0
   pub accepted_whole : (q : RenderArgs R.RenderChoice) (s : R.RenderState) (store marks : List ℕ)
-      → R.render_refusal q s store marks ≡ none → WholeRows q.to.choice store (R.reads_from s) → WholeRows q.to.choice store q.to.stop
+      → R.render_refusal q s store marks ≡ None → WholeRows q.to.choice store (R.reads_from s) → WholeRows q.to.choice store q.to.stop
   pub accepted_not_past : (q : RenderArgs R.RenderChoice) (s : R.RenderState) (store marks : List ℕ)
-      → R.render_refusal q s store marks ≡ none → R.reads_from s ≤ q.to.stop
+      → R.render_refusal q s store marks ≡ None → R.reads_from s ≤ q.to.stop
   pub accepted_same : (p : RenderTo R.RenderChoice) (rows : List ℕ) (q : RenderArgs R.RenderChoice) (store marks : List ℕ)
       → WholeRows p.choice rows p.stop
-      → R.render_refusal q (R.render R.render_fresh_of p [] rows).state store marks ≡ none → p.choice ≡ q.to.choice
+      → R.render_refusal q (R.render R.render_fresh_of p [] rows).state store marks ≡ None → p.choice ≡ q.to.choice
   -- the next row is the stop, the marks in use are as many as the state says, and they only grow
   pub fresh_row : R.reads_from R.render_fresh_of ≡ 0
   pub due_row : (p : RenderTo R.RenderChoice) (rows : List ℕ) → WholeRows p.choice rows p.stop
@@ -90,7 +89,7 @@ pub record CommentLaws (R : Rules) (L : LayoutLaws R) (listed : List Text) : Typ
 
 -- What 8 and 9 refuse. Only that no memory grows rests on these.
 pub record RoomLaws (R : Rules) : Type 0 where
-  pub rows_fit : (q : LayoutArgs R.LayoutChoice) (s : R.LayoutState) (store : List ℕ) → R.layout_refusal q s store ≡ none
+  pub rows_fit : (q : LayoutArgs R.LayoutChoice) (s : R.LayoutState) (store : List ℕ) → R.layout_refusal q s store ≡ None
       → PLACES * R.next_row s + length (R.layout s q).rows ≤ length store
-  pub marks_fit : (q : RenderArgs R.RenderChoice) (s : R.RenderState) (store marks : List ℕ) → R.render_refusal q s store marks ≡ none
+  pub marks_fit : (q : RenderArgs R.RenderChoice) (s : R.RenderState) (store marks : List ℕ) → R.render_refusal q s store marks ≡ None
       → length (R.render s q.to (take (R.in_use s) marks) store).marks ≤ length marks

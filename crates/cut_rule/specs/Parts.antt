@@ -1,7 +1,6 @@
 -- Document 01's rules and table, over parts that are open here: the shebang, one declaration, closing, the tests of image and rows,
 -- the renderer. `rules` puts them together; what the parts owe is in PartLaws.antt.
-use Rattle.std.specs.Prelude.{Bool, true, false, List, [], ◌∷◌, ◌++◌, ℕ, zero, suc, ◌+◌, ◌-◌, max, ltb, length, take, replicate}
-use Rattle.std.proofs.Math.Option.{Option}
+use Rattle.std.specs.Prelude.{Bool, true, false, List, [], ◌∷◌, ◌++◌, ℕ, zero, suc, ◌+◌, ◌-◌, max, ltb, length, take, replicate, Option}
 use Rattle.refusals.specs.Refusals.{Refusal, refuse_if, refuse_at, any, first}
 use Rattle.cut_rule.specs.Rules.{LayoutArgs, RenderTo, RenderArgs, LayoutResult, RenderResult, Rules}
 use Rattle.renderer_rules.specs.declared.Pen.{Pen}

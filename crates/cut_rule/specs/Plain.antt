@@ -1,6 +1,5 @@
 -- The plain run: it "gets source, image, what store and marks held at first and the calls' arguments, and no answer".
-use Rattle.std.specs.Prelude.{◌≡◌, List, [], ◌∷◌, ℕ, ◌≤◌, ◌<◌}
-use Rattle.std.proofs.Math.Option.{Option, none, some}
+use Rattle.std.specs.Prelude.{◌≡◌, List, [], ◌∷◌, ℕ, ◌≤◌, ◌<◌, Option, None, Some}
 use Rattle.cut_rule.specs.Rules.{LayoutArgs, RenderTo, LayoutResult, RenderResult, Rules}
 use Rattle.refusals.specs.Refusals.{unless}
 use Rattle.refusals.specs.Answers.{Answer}
@@ -15,22 +14,22 @@ module _ (R : Rules) where
 
   -- "both fresh at first"
   abbrev pub at_first : Progress
-  at_first = record { laid_to_of = none; rendered_to = none }
+  at_first = record { laid_to_of = None; rendered_to = None }
 
   -- "Due are the rows and layout state there": layout from fresh in one go; "with no accepted call that state stays fresh"
   abbrev pub layout_due : Option (LayoutArgs R.LayoutChoice) → LayoutResult R.LayoutState
-  layout_due none = record { state = R.layout_fresh_of; rows = []; left = 0 }
-  layout_due (some q) = R.layout R.layout_fresh_of q
+  layout_due None = record { state = R.layout_fresh_of; rows = []; left = 0 }
+  layout_due (Some q) = R.layout R.layout_fresh_of q
 
   -- "the marks in use, text and rendering state that the rows before the other stop give from fresh in one go"
   abbrev pub render_due : List ℕ → Option (RenderTo R.RenderChoice) → RenderResult R.RenderState
-  render_due rows none = record { state = R.render_fresh_of; marks = []; text = [] }
-  render_due rows (some p) = R.render R.render_fresh_of p [] rows
+  render_due rows None = record { state = R.render_fresh_of; marks = []; text = [] }
+  render_due rows (Some p) = R.render R.render_fresh_of p [] rows
 
   -- the comments left, once a layout call is accepted
   abbrev pub left_due : Option (LayoutArgs R.LayoutChoice) → Option ℕ
-  left_due none = none
-  left_due (some q) = some (layout_due (some q)).left
+  left_due None = None
+  left_due (Some q) = Some (layout_due (Some q)).left
 
   -- both, by how far layout and rendering came
   abbrev pub laid_due : Progress → LayoutResult R.LayoutState
@@ -52,8 +51,8 @@ module _ (R : Rules) where
 
   -- "An accepted layout call sets the one to its stop, closed or not, an accepted rendering call the other to its stop"
   abbrev pub onward : Progress → Call R → Progress
-  onward f (layout_call q) = record { laid_to_of = some q; rendered_to = f.rendered_to }
-  onward f (render_call q) = record { laid_to_of = f.laid_to_of; rendered_to = some q.to }
+  onward f (layout_call q) = record { laid_to_of = Some q; rendered_to = f.rendered_to }
+  onward f (render_call q) = record { laid_to_of = f.laid_to_of; rendered_to = Some q.to }
 
   -- "the table below, read on what is due before a call, says whether it is accepted"; "a refused one neither"
   abbrev pub plain_call : List ℕ → List ℕ → Progress → Call R → Progress
@@ -69,7 +68,7 @@ module _ (R : Rules) where
   answers_due store₀ marks₀ f (c ∷ cs) = answer R (due store₀ marks₀ f) c ∷ answers_due store₀ marks₀ (plain_call store₀ marks₀ f c) cs
 
   abbrev pub IsAccepted : Carried R → Call R → Type 0
-  IsAccepted w c = refusal R w c ≡ none
+  IsAccepted w c = refusal R w c ≡ None
 
   -- each row that a call reads, from its next row to its stop, is laid out
   abbrev pub ReadsLaid : Carried R → Call R → Type 0

@@ -1,7 +1,6 @@
 -- What the cut rule (demand 3 of document 01) speaks of: the rules of layout and rendering and the table of refusals, for one source and one
 -- image. They are left open here, so that the rule is proved once; Parts.antt has document 01's.
-use Rattle.std.specs.Prelude.{Bool, List, ℕ}
-use Rattle.std.proofs.Math.Option.{Option}
+use Rattle.std.specs.Prelude.{Bool, List, ℕ, Option}
 use Rattle.refusals.specs.Refusals.{Refusal}
 
 -- "A layout call names the declaration to stop before and whether to close." `choice` is what "later tickets add".

@@ -1,6 +1,5 @@
 -- A list of calls: what each meets, answers and leaves.
-use Rattle.std.proofs.Math.Option.{Option, none, some}
-use Rattle.std.specs.Prelude.{List, [], ◌∷◌, ◌++◌, ℕ, ◌*◌, length, take, drop}
+use Rattle.std.specs.Prelude.{List, [], ◌∷◌, ◌++◌, ℕ, ◌*◌, length, take, drop, Option, None, Some}
 use Rattle.rows.specs.Places.{PLACES}
 use Rattle.refusals.specs.Refusals.{Refusal, unless}
 use Rattle.refusals.specs.Answers.{Answer, answer_by}
@@ -31,7 +30,7 @@ module _ (R : Rules) where
   -- fresh states, and whatever store and marks held
   abbrev pub start : List ℕ → List ℕ → Carried
   start store₀ marks₀ =
-      record { store = store₀; marks = marks₀; layout_state_of = R.layout_fresh_of; render_state_of = R.render_fresh_of; text = []; left = none }
+      record { store = store₀; marks = marks₀; layout_state_of = R.layout_fresh_of; render_state_of = R.render_fresh_of; text = []; left = None }
 
   -- the table, read on what is there before the call
   abbrev pub refusal : Carried → Call → Option Refusal
@@ -50,7 +49,7 @@ module _ (R : Rules) where
     layout_state_of = (R.layout w.layout_state_of q).state;
     render_state_of = w.render_state_of;
     text = w.text;
-    left = some (R.layout w.layout_state_of q).left;
+    left = Some (R.layout w.layout_state_of q).left;
   }
   accepted w (render_call q) = record {
     store = w.store;

@@ -2,7 +2,7 @@
 -- Assumes nothing.
 use mathlib.Core.Path.{◌≡◌, refl, sym, ap, ◌∙◌}
 use mathlib.Core.Bool.{Bool, true, false, not, ◌||◌}
-use mathlib.Core.Option.{Option, none, some}
+use Rattle.std.specs.Prelude.{Option, None, Some, Result, Ok, Err}
 use mathlib.Core.List.{List, [], ◌∷◌, ◌++◌}
 use Prim.Native.Nat.{ℕ}
 use native.Mathlib.Omega.{arith}
@@ -11,6 +11,8 @@ use lib.ListN.{length, take, drop}
 use lib.Seq.{drop_at}
 use Rattle.refusals.specs.Refusals.{Refusal, refuse_if, refuse_at, any, first, is_one_of, unless}
 use Rattle.refusals.specs.Answers.{refusal_of}
+use Rattle.refusals.specs.Reasons.{answer_of, refusal_in}
+use Rattle.refusals.specs.declared.Refused.{Refused}
 use Rattle.refusals.proofs.Answers.{by_table}
 use Rattle.image.specs.Read.{Read, got, bad, read_all, read_refusal, reader_numbers, header, source_fits}
 use Rattle.image.proofs.Numbers.{read_numbers}
@@ -37,12 +39,12 @@ use Rattle.figures.specs.Figures.{FILE_OUTPUT, count_refusal}
 
 -- ---- refusals under a list of numbers
 pub record Under (ns : List ℕ) (o : Option Refusal) : Type 0 where
-  pub of : (r : Refusal) → o ≡ some r → is_one_of r.number ns ≡ true
+  pub of : (r : Refusal) → o ≡ Some r → is_one_of r.number ns ≡ true
 
-never : {A : Type 0} (r : Refusal) → ◌≡◌ {A = Option Refusal} none (some r) → A
+never : {A : Type 0} (r : Refusal) → ◌≡◌ {A = Option Refusal} None (Some r) → A
 never r e = let z : ◌≡◌ {A = ℕ} 0 1 = cc in absurd (omega arith)
 
-same : (n p : ℕ) (r : Refusal) → some (record { number = n; place = p }) ≡ some r → n ≡ r.number
+same : (n p : ℕ) (r : Refusal) → Some (record { number = n; place = p }) ≡ Some r → n ≡ r.number
 same n p r e = let f : ◌≡◌ {A = Refusal} (record { number = n; place = p }) r = cc in ap (λ (x : Refusal). x.number) f
 
 pub under_if : (ns : List ℕ) (t : Bool) (n p : ℕ) → is_one_of n ns ≡ true → Under ns (refuse_if t n p)
@@ -50,10 +52,10 @@ under_if ns true n p h = record { of = λ r e. sym (ap (λ (k : ℕ). is_one_of 
 under_if ns false n p h = record { of = λ r e. never r e }
 
 under_at : (ns : List ℕ) (o : Option ℕ) (n : ℕ) → is_one_of n ns ≡ true → Under ns (refuse_at o n)
-under_at ns (some p) n h = under_if ns true n p h
-under_at ns none n h = record { of = λ r e. never r e }
+under_at ns (Some p) n h = under_if ns true n p h
+under_at ns None n h = record { of = λ r e. never r e }
 
-pub under_none : (ns : List ℕ) → Under ns none
+pub under_none : (ns : List ℕ) → Under ns None
 under_none ns = record { of = λ r e. never r e }
 
 -- each line of a table
@@ -63,8 +65,8 @@ AllUnder ns (o ∷ os) = Under ns o × AllUnder ns os
 
 pub under_first : (ns : List ℕ) (os : List (Option Refusal)) → AllUnder ns os → Under ns (first os)
 under_first ns [] h = under_none ns
-under_first ns (some q ∷ os) h = h.0
-under_first ns (none ∷ os) h = under_first ns os h.1
+under_first ns (Some q ∷ os) h = h.0
+under_first ns (None ∷ os) h = under_first ns os h.1
 
 pub all_append : (ns : List ℕ) (os ps : List (Option Refusal)) → AllUnder ns os → AllUnder ns ps → AllUnder ns (os ++ ps)
 all_append ns [] ps h k = k
@@ -189,40 +191,45 @@ frame_under frame room =
 
 -- ---- answers by a table
 pub answered : {ns : List ℕ} {table refusal : Option Refusal} {Kept : Type 0} → refusal ≡ table → Under ns table
-    → ((r : Refusal) → table ≡ some r → Kept)
+    → ((r : Refusal) → table ≡ Some r → Kept)
     → Answered ns table refusal Kept
 answered e u k = record { as_table = e; listed = λ r f. u.of r (sym e ∙ f); kept = λ r f. k r (sym e ∙ f) }
 
 -- what stands where a call is refused
-pub left_same : (o : Option Refusal) (r : Refusal) (old new : List ℕ) → o ≡ some r → unless o old new ≡ old
-left_same (some q) r old new e = refl
-left_same none r old new e = never r e
+pub left_same : (o : Option Refusal) (r : Refusal) (old new : List ℕ) → o ≡ Some r → unless o old new ≡ old
+left_same (Some q) r old new e = refl
+left_same None r old new e = never r e
+
+-- the refusal of an answer is that of what it stands for
+pub as_answer : {A B : Type 0} (given : A → B) (r : Result A Refused) → refusal_in r ≡ refusal_of (answer_of given r)
+as_answer given (Ok a) = refl
+as_answer given (Err r) = refl
 
 -- ---- the entries
 check : CheckAnswered
-check s b r e = answered (ap refusal_of e ∙ read_refusal_lem (read_all s b)) (read_under s b) (λ r f. tt)
+check s b r e = answered (as_answer _ r ∙ ap refusal_of e ∙ read_refusal_lem (read_all s b)) (read_under s b) (λ r f. tt)
 
 layout_call : LayoutAnswered
 layout_call s b state args store r store2 p =
-    answered (ap refusal_of p.answer ∙ by_table ((rules_of s b).layout_refusal (layout.to_args args) (layout.to_state state) store) _)
+    answered (as_answer _ r ∙ ap refusal_of p.answer ∙ by_table ((rules_of s b).layout_refusal (layout.to_args args) (layout.to_state state) store) _)
     (layout_under s b (layout.to_args args) (layout.to_state state) store)
     (λ r f. p.store_left_of ∙ left_same _ r store _ f)
 
 render_call : RenderAnswered
 render_call s b state args store marks out r store2 marks2 out2 p =
     answered
-    (ap refusal_of p.answer ∙ by_table ((rules_of s b).render_refusal (render.to_args args (length out)) (render.to_state state) store marks) _)
+    (as_answer _ r ∙ ap refusal_of p.answer ∙ by_table ((rules_of s b).render_refusal (render.to_args args (length out)) (render.to_state state) store marks) _)
     (render_under s b (render.to_args args (length out)) (render.to_state state) store marks)
     (λ r f. (p.store_left_of, p.marks_left_of ∙ left_same _ r marks _ f, p.output_left_of ∙ left_same _ r out _ f))
 
 format_file : FileAnswered
 format_file s b c out r out2 p =
-    answered (ap refusal_of p.answer ∙ by_table (file_refusal s b c (length out)) _) (file_under s b c (length out))
+    answered (as_answer _ r ∙ ap refusal_of p.answer ∙ by_table (file_refusal s b c (length out)) _) (file_under s b c (length out))
     (λ r f. p.output_left_of ∙ left_same _ r out _ f)
 
 format_frame : FrameAnswered
 format_frame frame out r out2 p =
-    answered (ap refusal_of p.answer ∙ by_table (frame_table frame (length out)) _) (frame_under frame (length out))
+    answered (as_answer _ r ∙ ap refusal_of p.answer ∙ by_table (frame_table frame (length out)) _) (frame_under frame (length out))
     (λ r f. p.output_left_of ∙ left_same _ r out _ f)
 
 pub count_under : (s b : List ℕ) (t : Tallies) → Under count_numbers (count_refusal s b t)
@@ -233,7 +240,7 @@ count_under s b t =
     )
 
 count_file : CountAnswered
-count_file s b t r e = answered (ap refusal_of e ∙ by_table (count_refusal s b t) _) (count_under s b t) (λ r f. tt)
+count_file s b t r e = answered (as_answer _ r ∙ ap refusal_of e ∙ by_table (count_refusal s b t) _) (count_under s b t) (λ r f. tt)
 
 program_wrote : ProgramAnswered
 unfolding reply

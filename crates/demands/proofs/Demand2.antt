@@ -2,7 +2,7 @@
 -- Assumes nothing.
 use mathlib.Core.Path.{◌≡◌, refl, ap, ap₂, ◌∙◌}
 use mathlib.Core.Bool.{true}
-use mathlib.Core.Option.{Option, none}
+use Rattle.std.specs.Prelude.{Option, None, Ok}
 use mathlib.Core.List.{List, [], ◌∷◌}
 use Prim.Native.Nat.{ℕ, ◌≤◌}
 use lib.ListN.{length}
@@ -32,7 +32,6 @@ use Rattle.whole_run.proofs.File.{state_due, rendered_due, old_mode_is_fmt_parse
 use Rattle.whole_run.proofs.File.{layout_answer_due, layout_store_due, render_answer_due, render_marks_due, render_output_due}
 use Rattle.layout_call.specs.declared.LayoutState.{LayoutState}
 use Rattle.layout_call.specs.declared.LayoutArgs.{LayoutArgs}
-use Rattle.layout_call.specs.declared.Laying.TheVariants as laying
 use Rattle.layout_call.specs.Calls as layout
 use Rattle.layout_call.specs.Whole.{LayoutCalled}
 use Rattle.render_call.specs.Calls as render
@@ -41,7 +40,7 @@ use Rattle.demands.specs.Demand2.{LaidOutAs, AtStopDue, ClosedDue, ClosedKeeping
 
 -- ---- layout
 module _ (s b store : List ℕ) (q : LayoutArgs) (t : LayoutState) (left : ℕ) (store2 : List ℕ)
-    (p : LayoutCalled s b fresh_layout q store (laying.Laid t left) store2) where
+    (p : LayoutCalled s b fresh_layout q store (Ok (record { state = t; left = left })) store2) where
   abbrev refusal : Option Refusal
   refusal = (rules_of s b).layout_refusal (layout.to_args q) (layout.to_state fresh_layout) store
 
@@ -89,11 +88,11 @@ closed_keeping s b store t left store2 p =
 
 -- ---- rendering
 -- from fresh 12 refuses no mode up to 1
-mode_passes : (c : FileChoice) → c.mode ≤ states.NEW_MODE → mode_line c ≡ none
+mode_passes : (c : FileChoice) → c.mode ≤ states.NEW_MODE → mode_line c ≡ None
 mode_passes c h = rw (le-ltb states.NEW_MODE c.mode h)
 
 -- and 15 no legal width
-width_passes : (width : ℕ) → LegalWidth width → refuse_if (any (tests.width_tests width 0)) 15 0 ≡ none
+width_passes : (width : ℕ) → LegalWidth width → refuse_if (any (tests.width_tests width 0)) 15 0 ≡ None
 width_passes width h = rw (le-ltb width MIN_WIDTH h.least, le-ltb MAX_WIDTH width h.most)
 
 rendered : RenderedDue
@@ -107,7 +106,7 @@ rendered s b store mode t left store2 p width marks out u n store3 marks2 out2 q
     let before = laid s b store (record { stop = length (declared s b); close = true; mode = mode }) t left store2 p in
     let fits = layout_told (parts_of s b) (closing_at (layout_choice c) (length (declared s b))) (layout.to_state fresh_layout) store before.passes in
     let moded = mode_passes c fits.fits.mode.known in
-    let passed : first (file_before_rows s b c) ≡ none = λ i. first (fits.image i ∷ moded i ∷ legal i ∷ []) in
+    let passed : first (file_before_rows s b c) ≡ None = λ i. first (fits.image i ∷ moded i ∷ legal i ∷ []) in
     let w = laid_by R (laid_refusal s b c (tests.rows_in store)) (layout.to_state t) left (state_due s b c) _ (p.answer ∙ layout_answer_due s b c passed store) in
     let row : t.row ≡ rows_due s b c = ap (λ (x : states.LayoutState). x.cursor.row) w.state in
     let left_store : store2 ≡ store_left s b c store = p.store_left_of ∙ layout_store_due s b c passed store in

@@ -13,7 +13,7 @@ use Rattle.cut_rule.specs.Callers.{after_all, AllKept}
 use Rattle.cut_rule.proofs.Entries.{entries_are_calls}
 use Rattle.cut_rule.proofs.Answers.{laid_by, all_held}
 use mathlib.Core.Bool.{false}
-use mathlib.Core.Option.{none}
+use Rattle.std.specs.Prelude.{None, Result, Ok, Err}
 use Rattle.refusals.specs.Refusals.{any, refuse_if}
 use Rattle.refusals.proofs.Groups.{passes_left, passes_line, passes_others, not_if}
 use Rattle.cut_rule.specs.States as states
@@ -24,13 +24,12 @@ use Rattle.whole_run.specs.Foot.{HoldsAll}
 use Rattle.whole_run.proofs.Demands.{rules_cut}
 use Rattle.whole_run.proofs.Foot.{closing_places_all, closed_holds_all}
 use Rattle.layout_call.specs.declared.LayoutArgs.{LayoutArgs}
-use Rattle.layout_call.specs.declared.Laying.{Laying}
-use Rattle.layout_call.specs.declared.Laying.TheVariants as laying
+use Rattle.layout_call.specs.declared.Laid.{Laid}
+use Rattle.refusals.specs.declared.Refused.{Refused}
 use Rattle.layout_call.specs.Calls as layout
 use Rattle.layout_call.specs.Whole.{LayoutCalled}
 use Rattle.render_call.specs.declared.RenderArgs.{RenderArgs}
-use Rattle.render_call.specs.declared.Rendering.{Rendering}
-use Rattle.render_call.specs.declared.Rendering.TheVariants as rendering
+use Rattle.render_call.specs.declared.Written.{Written}
 use Rattle.render_call.specs.Calls as render
 use Rattle.render_call.specs.Whole.{RenderCalled}
 use Rattle.demands.specs.Demand3.{Caller, fresh_caller, Made, laid, rendered, Promised, after_made, call_made}
@@ -38,21 +37,21 @@ use Rattle.demands.specs.Demand3.{answer_made, held, HeldAsDue, Demand3, CallsHo
 
 module _ (s b : List ℕ) where
   -- one call
-  layout_held : (w : Caller) (args : LayoutArgs) (r : Laying) (store2 : List ℕ) → LayoutCalled s b w.layout_state_of args w.store r store2
+  layout_held : (w : Caller) (args : LayoutArgs) (r : Result Laid Refused) (store2 : List ℕ) → LayoutCalled s b w.layout_state_of args w.store r store2
       → held s b (after_made w (laid args r store2)) ≡ entry_call (rules_of s b) (held s b w) [] (layout_call (layout.to_args args))
-  layout_held w args (laying.Laid t n) store2 p = rw (sym p.answer, p.store_left_of)
-  layout_held w args (laying.Refused n q) store2 p = rw (sym p.answer, p.store_left_of)
+  layout_held w args (Ok t) store2 p = rw (sym p.answer, p.store_left_of)
+  layout_held w args (Err q) store2 p = rw (sym p.answer, p.store_left_of)
 
   abbrev with_text : Carried (rules_of s b) → List ℕ → Carried (rules_of s b)
   with_text v t = record { store = v.store; marks = v.marks; layout_state_of = v.layout_state_of; render_state_of = v.render_state_of; text = t; left = v.left }
 
-  render_held : (w : Caller) (args : RenderArgs) (out : List ℕ) (r : Rendering) (store2 marks2 out2 : List ℕ)
+  render_held : (w : Caller) (args : RenderArgs) (out : List ℕ) (r : Result Written Refused) (store2 marks2 out2 : List ℕ)
       → RenderCalled s b w.render_state_of args w.store w.marks out r store2 marks2 out2
       → held s b (after_made w (rendered args out r store2 marks2 out2))
       ≡ entry_call (rules_of s b) (held s b w) out (render_call (render.to_args args (length out)))
-  render_held w args out (rendering.Written t n) store2 marks2 out2 p = rw (sym p.answer, p.store_left_of, p.marks_left_of, p.output_left_of)
-  render_held w args out (rendering.Refused n q) store2 marks2 out2 p =
-      ap (with_text (held s b (after_made w (rendered args out (rendering.Refused n q) store2 marks2 out2)))) (sym (append-nil w.text))
+  render_held w args out (Ok t) store2 marks2 out2 p = rw (sym p.answer, p.store_left_of, p.marks_left_of, p.output_left_of)
+  render_held w args out (Err q) store2 marks2 out2 p =
+      ap (with_text (held s b (after_made w (rendered args out (Err q) store2 marks2 out2)))) (sym (append-nil w.text))
       ∙ rw (sym p.answer, p.store_left_of, p.marks_left_of)
 
   one_held : (w : Caller) (m : Made) → Promised s b w m → held s b (after_made w m) ≡ call (rules_of s b) (held s b w) (call_made s b m)
@@ -117,7 +116,7 @@ closing_leaves_none s b state args store t left store2 p closes new =
     let laid_out_lem = laid_by (rules_of s b) ((rules_of s b).layout_refusal q z store) (layout.to_state t) left given.state given.left p.answer in
     let lines = passes_left (before_rows P q z store) (rows_line P q z store) laid_out_lem.passes in
     let twelve = refuse_if (any (layout_tests P q z store)) 12 0 in
-    let read : read_refusal (read_all s b) ≡ none = passes_line P.layout_image (twelve ∷ []) lines in
+    let read : read_refusal (read_all s b) ≡ None = passes_line P.layout_image (twelve ∷ []) lines in
     let tests : any (layout_tests P q z store) ≡ false =
     not_if (any (layout_tests P q z store)) 12 0 (passes_line twelve [] (passes_others P.layout_image (twelve ∷ []) lines))
     in

@@ -2,7 +2,7 @@
 -- Assumes nothing.
 use mathlib.Core.Path.{◌≡◌, refl, sym, ap, ap₂, subst, ◌∙◌}
 use mathlib.Core.Bool.{true, false, ◌||◌}
-use mathlib.Core.Option.{Option, none}
+use Rattle.std.specs.Prelude.{Option, None, Some, Result, Ok, Err}
 use mathlib.Core.List.{List, [], ◌∷◌, ◌++◌}
 use Prim.Native.Nat.{ℕ, ◌+◌, ◌≤◌}
 use native.Mathlib.Omega.{arith}
@@ -15,7 +15,7 @@ use Rattle.laws.proofs.Options as options
 use Rattle.refusals.specs.Refusals.{Refusal, refuse_if, is_one_of, unless}
 use Rattle.refusals.specs.Answers.{refused, accepted, answer_by, refusal_of}
 use Rattle.refusals.proofs.Groups.{passes_line, passes_others, not_if}
-use Rattle.refusals.proofs.Answers.{by_table, refused_by, accepted_by, sets_front}
+use Rattle.refusals.proofs.Answers.{by_table, accepted_by, sets_front}
 use Rattle.image.specs.Limits.{MAX_BODY}
 use Rattle.image.specs.Read.{Read, got, bad, Image, read_all, read_refusal, reader_numbers}
 use Rattle.steps.specs.Writer.{contents_from, image_due, writer_refusal}
@@ -23,11 +23,11 @@ use Rattle.steps.specs.OfImage.{steps_of, steps_by, steps_due, steps_of_refusal}
 use Rattle.steps.specs.Exact.{Bytes, Turns, OneList}
 use Rattle.steps.proofs.Numbers.{steps_number}
 use Rattle.steps.proofs.Claims.{exactly_one, written_reads_back}
-use Rattle.writer.specs.declared.Wrote.{Wrote}
-use Rattle.writer.specs.declared.Wrote.TheVariants as answer
-use Rattle.writer.specs.Wrote.{wrote_answer, Writes, Lists}
+use Rattle.refusals.specs.Reasons.{answer_of, refusal_in}
+use Rattle.refusals.specs.declared.Refused.{Refused}
+use Rattle.writer.specs.Wrote.{Writes, Lists}
 use Rattle.demands.specs.Generator.{writer_numbers, steps_numbers, Generator1, TheList, GivesBack, GeneratorLists}
-use Rattle.demands.proofs.Demand1.{Under, under_if, under_first, under_read, under_more, read_under, answered, left_same}
+use Rattle.demands.proofs.Demand1.{Under, under_if, under_first, under_read, under_more, read_under, answered, left_same, as_answer}
 
 -- ---- demand 1
 steps_under : (l : List ℕ) → Under writer_numbers (read_refusal (contents_from l))
@@ -51,23 +51,23 @@ pub generator_1 : Generator1
 generator_1 = record {
   write =
       λ l out r out2 p.
-      answered (ap refusal_of p.0 ∙ by_table (writer_refusal l (length out)) _) (write_under l (length out))
+      answered (as_answer _ r ∙ ap refusal_of p.0 ∙ by_table (writer_refusal l (length out)) _) (write_under l (length out))
       (λ q f. p.1 ∙ left_same _ q out _ f);
   list =
       λ s b out r out2 p.
-      answered (ap refusal_of p.0 ∙ by_table (steps_of_refusal s b (length out)) _) (list_under s b (length out))
+      answered (as_answer _ r ∙ ap refusal_of p.0 ∙ by_table (steps_of_refusal s b (length out)) _) (list_under s b (length out))
       (λ q f. p.1 ∙ left_same _ q out _ f);
 }
 
 -- ---- what stands at the start of an output
 -- the table refuses nothing, and the first n bytes are those due
 record Front (o : Option Refusal) (ws : List ℕ) (n : ℕ) (out2 : List ℕ) : Type 0 where
-  pub passed : o ≡ none
+  pub passed : o ≡ None
   pub count : n ≡ length ws
   pub bytes : take n out2 ≡ ws
 
 front : (o : Option Refusal) (ws out : List ℕ) (n : ℕ) (out2 : List ℕ) → accepted n ≡ answer_by o (length ws) → out2 ≡ unless o out (sets out 0 ws)
-    → (o ≡ none → length ws ≤ length out)
+    → (o ≡ None → length ws ≤ length out)
     → Front o ws n out2
 front o ws out n out2 e f fits =
     let a = accepted_by o n (length ws) e in
@@ -81,11 +81,11 @@ front o ws out n out2 e f fits =
 -- ---- the writer
 -- a list that is accepted, and whose image is no longer than it may be and than the room
 record Takes (l : List ℕ) (room : ℕ) : Type 0 where
-  pub taken : read_refusal (contents_from l) ≡ none
+  pub taken : read_refusal (contents_from l) ≡ None
   pub small : ltb (5 + MAX_BODY) (length (image_due l)) ≡ false
   pub fits : ltb room (length (image_due l)) ≡ false
 
-takes : (l : List ℕ) (room : ℕ) → writer_refusal l room ≡ none → Takes l room
+takes : (l : List ℕ) (room : ℕ) → writer_refusal l room ≡ None → Takes l room
 takes l room e =
     let long = ltb (5 + MAX_BODY) (length (image_due l)) in
     let past = ltb room (length (image_due l)) in
@@ -95,31 +95,36 @@ takes l room e =
     record { taken = passes_line (read_refusal (contents_from l)) (line ∷ []) e; small = or_first long past short; fits = or_rest long past short }
 
 -- so it is in every output that has room for the image
-given_room : (l : List ℕ) (room more : ℕ) → Takes l room → length (image_due l) ≤ more → writer_refusal l more ≡ none
+given_room : (l : List ℕ) (room more : ℕ) → Takes l room → length (image_due l) ≤ more → writer_refusal l more ≡ None
 given_room l room more t h = rw (t.taken, t.small, le-ltb more (length (image_due l)) h)
 
-written_front : (l out : List ℕ) (n : ℕ) (out2 : List ℕ) → Writes l out (answer.Bytes n) out2 → Front (writer_refusal l (length out)) (image_due l) n out2
+written_front : (l out : List ℕ) (n : ℕ) (out2 : List ℕ) → Writes l out (Ok n) out2 → Front (writer_refusal l (length out)) (image_due l) n out2
 written_front l out n out2 p =
     front (writer_refusal l (length out)) (image_due l) out n out2 p.0 p.1
     (λ e. ltb-false (length out) (length (image_due l)) (takes l (length out) e).fits)
 
 turns_by : (l b : List ℕ) (room : ℕ) → Takes l room → image_due l ≡ b → Turns l b
 turns_by l b room t i =
-    let none_at : writer_refusal l (length b) ≡ none = given_room l room (length b) t (subst (λ (x : List ℕ). length (image_due l) ≤ length x) i (omega arith)) in
+    let none_at : writer_refusal l (length b) ≡ None = given_room l room (length b) t (subst (λ (x : List ℕ). length (image_due l) ≤ length x) i (omega arith)) in
     record { taken = ap (λ (o : Option Refusal). answer_by o (length (image_due l))) none_at ∙ ap (λ (x : List ℕ). accepted (length x)) i; image = i }
 
-written_turns : (l out : List ℕ) (n : ℕ) (out2 b : List ℕ) → Writes l out (answer.Bytes n) out2 → take n out2 ≡ b → Turns l b
+written_turns : (l out : List ℕ) (n : ℕ) (out2 b : List ℕ) → Writes l out (Ok n) out2 → take n out2 ≡ b → Turns l b
 written_turns l out n out2 b p e =
     let f = written_front l out n out2 p in
     turns_by l b (length out) (takes l (length out) f.passed) (sym f.bytes ∙ e)
 
-turned_by : (l b out : List ℕ) (r : Wrote) (out2 : List ℕ) → Turns l b → Writes l out r out2 → length b ≤ length out
-    → (wrote_answer r ≡ accepted (length b)) × (out2 ≡ sets out 0 b)
+-- an answer that gives a number
+is_ok : (r : Result ℕ Refused) (k : ℕ) → answer_of (λ n. n) r ≡ accepted k → r ≡ Ok k
+is_ok (Ok n) k e = let f : n ≡ k = cc in ap (λ (m : ℕ). Ok m) f
+is_ok (Err r) k e = absurd (cc)
+
+turned_by : (l b out : List ℕ) (r : Result ℕ Refused) (out2 : List ℕ) → Turns l b → Writes l out r out2 → length b ≤ length out
+    → (r ≡ Ok (length b)) × (out2 ≡ sets out 0 b)
 turned_by l b out r out2 t p h =
-    let passed : writer_refusal l (length b) ≡ none = (accepted_by (writer_refusal l (length b)) (length b) (length (image_due l)) (sym t.taken)).passes in
+    let passed : writer_refusal l (length b) ≡ None = (accepted_by (writer_refusal l (length b)) (length b) (length (image_due l)) (sym t.taken)).passes in
     let due : length (image_due l) ≡ length b = ap length t.image in
-    let none_at : writer_refusal l (length out) ≡ none = given_room l (length b) (length out) (takes l (length b) passed) (omega (arith, due, h)) in (
-      p.0 ∙ ap (λ (o : Option Refusal). answer_by o (length (image_due l))) none_at ∙ ap (λ (x : List ℕ). accepted (length x)) t.image,
+    let none_at : writer_refusal l (length out) ≡ None = given_room l (length b) (length out) (takes l (length b) passed) (omega (arith, due, h)) in (
+      is_ok r _ (p.0 ∙ ap (λ (o : Option Refusal). answer_by o (length (image_due l))) none_at ∙ ap (λ (x : List ℕ). accepted (length x)) t.image),
       p.1 ∙ ap (λ (o : Option Refusal). unless o out (sets out 0 (image_due l))) none_at ∙ ap (λ (x : List ℕ). sets out 0 x) t.image,
     )
 
@@ -131,7 +136,7 @@ record Listed (s b : List ℕ) (m : ℕ) (out2 : List ℕ) : Type 0 where
   pub read : read_all s b ≡ got image end
   pub steps : take m out2 ≡ steps_of b image
 
-listed : (s b out : List ℕ) (m : ℕ) (out2 : List ℕ) → Lists s b out (answer.Bytes m) out2 → Listed s b m out2
+listed : (s b out : List ℕ) (m : ℕ) (out2 : List ℕ) → Lists s b out (Ok m) out2 → Listed s b m out2
 listed s b out m out2 p = go (read_all s b) refl
   where
     due : List ℕ
@@ -140,7 +145,7 @@ listed s b out m out2 p = go (read_all s b) refl
     line : Option Refusal
     line = refuse_if (ltb (length out) (length due)) 17 (length due)
 
-    fits : steps_of_refusal s b (length out) ≡ none → length due ≤ length out
+    fits : steps_of_refusal s b (length out) ≡ None → length due ≤ length out
     fits e =
         ltb-false (length out) (length due)
         (not_if (ltb (length out) (length due)) 17 (length due) (passes_line line [] (passes_others (read_refusal (read_all s b)) (line ∷ []) e)))
@@ -154,7 +159,7 @@ listed s b out m out2 p = go (read_all s b) refl
         absurd (options.never _ (sym (ap read_refusal e) ∙ passes_line (read_refusal (read_all s b)) (line ∷ []) whole.passed))
 
 -- ---- the two sentences
-the_list : (s b out : List ℕ) (m : ℕ) (out2 : List ℕ) → Bytes b → Lists s b out (answer.Bytes m) out2 → TheList b (take m out2)
+the_list : (s b out : List ℕ) (m : ℕ) (out2 : List ℕ) → Bytes b → Lists s b out (Ok m) out2 → TheList b (take m out2)
 the_list s b out m out2 small p =
     let x = listed s b out m out2 p in
     let one : OneList b x.image = exactly_one s b x.image x.end small x.read in
@@ -165,7 +170,7 @@ the_list s b out m out2 small p =
     }
 
 -- a refusal of the steps of an image is the reader's, or 17
-refused_as : (s b out : List ℕ) (r : Wrote) (out2 : List ℕ) (q : Refusal) → Lists s b out r out2 → wrote_answer r ≡ refused q
+refused_as : (s b out : List ℕ) (r : Result ℕ Refused) (out2 : List ℕ) (q : Refusal) → Lists s b out r out2 → refusal_in r ≡ Some q
     → ((n p : ℕ) → read_all s b ≡ bad n p → is_one_of n (1 ∷ 2 ∷ 6 ∷ 7 ∷ []) ≡ true)
     → is_one_of q.number (1 ∷ 2 ∷ 6 ∷ 7 ∷ 17 ∷ []) ≡ true
 refused_as s b out r out2 q p e by =
@@ -176,9 +181,9 @@ refused_as s b out r out2 q p e by =
       under_more ns (17 ∷ []) (read_refusal (read_all s b)) read,
       (under_if (ns ++ (17 ∷ [])) (ltb (length out) (length due)) 17 (length due) refl, tt),
     )
-    ).of q (refused_by (steps_of_refusal s b (length out)) (length due) q (sym e ∙ p.0))
+    ).of q (sym (as_answer (λ n. n) r ∙ ap refusal_of p.0 ∙ by_table (steps_of_refusal s b (length out)) (length due)) ∙ e)
 
-gives_back : (l out : List ℕ) (n : ℕ) (out2 : List ℕ) → Bytes l → Writes l out (answer.Bytes n) out2 → GivesBack l (take n out2)
+gives_back : (l out : List ℕ) (n : ℕ) (out2 : List ℕ) → Bytes l → Writes l out (Ok n) out2 → GivesBack l (take n out2)
 gives_back l out n out2 small p =
     let b = take n out2 in
     let turns : Turns l b = written_turns l out n out2 b p refl in

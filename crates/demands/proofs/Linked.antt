@@ -1,8 +1,8 @@
 -- The numbers that a linked function leaves tell the answer of the function in Rattle, and so what is proved of that one holds of the linked one.
 -- Assumes nothing.
 use mathlib.Core.Path.{◌≡◌, refl, sym, ap, ap₂, subst, subst₂, ◌∙◌}
-use mathlib.Core.Bool.{Bool, true, false, cond}
-use mathlib.Core.Option.{Option, none, some}
+use mathlib.Core.Bool.{Bool, true, false, cond, ◌&&◌, ◌||◌}
+use Rattle.std.specs.Prelude.{Option, None, Some, Result, Ok, Err}
 use mathlib.Core.List.{List, [], ◌∷◌, ◌++◌, map, append-nil}
 use Prim.Native.Nat.{ℕ, suc, ◌≤◌}
 use native.Mathlib.Omega.{arith}
@@ -12,9 +12,11 @@ use borrow.Author.Tests.{eqb-true}
 use Rattle.refusals.specs.Refusals.{Refusal, is_one_of}
 use Rattle.refusals.specs.Answers.{Answer, refused, accepted, answer_by, numbers_of}
 use Rattle.refusals.proofs.Answers.{told_zero, told_refusal}
-use Rattle.image.specs.Read.{Read, got, bad, Image, read_all, read_refusal, reader_numbers, document_of, outcome, checked_answer}
+use Rattle.refusals.specs.Reasons.{number_of, answer_of}
+use Rattle.refusals.specs.declared.Refused.{Refused}
+use Rattle.laws.proofs.Booleans.{false_true, and_left, and_right}
+use Rattle.image.specs.Read.{Read, got, bad, Image, read_all, read_refusal, reader_numbers, document_of, outcome}
 use Rattle.image.specs.declared.Document.{Document}
-use Rattle.image.specs.declared.Answer.TheVariants as checked
 use Rattle.cut_rule.specs.Run.{Call, CallResult, laid_out, written, Carried, start, run}
 use Rattle.cut_rule.specs.Plain.{at_first, answers_due, AllReadLaid}
 use Rattle.cut_rule.specs.Callers.{after_all, AllKept}
@@ -24,28 +26,21 @@ use Rattle.whole_run.specs.Built.{declared}
 use Rattle.whole_run.specs.Demands.{rules_of}
 use Rattle.whole_run.specs.File.{file_refusal, FileResult, file_result}
 use Rattle.whole_run.specs.Foot.{HoldsAll}
-use Rattle.layout_call.specs.declared.Laying.{Laying}
-use Rattle.layout_call.specs.declared.Laying.TheVariants as laying
+use Rattle.layout_call.specs.declared.Laid.{Laid}
 use Rattle.layout_call.specs.Calls as layout
 use Rattle.layout_call.specs.Whole.{LayoutCalled}
-use Rattle.render_call.specs.declared.Rendering.{Rendering}
-use Rattle.render_call.specs.declared.Rendering.TheVariants as rendering
+use Rattle.render_call.specs.declared.Written.{Written}
 use Rattle.render_call.specs.Calls as render
 use Rattle.render_call.specs.Whole.{RenderCalled}
-use Rattle.file.specs.declared.Formatted.{Formatted}
-use Rattle.file.specs.declared.Formatted.TheVariants as formatted
+use Rattle.file.specs.declared.Text.{Text}
 use Rattle.file.specs.Whole.{to_choice, formatted_answer, Formats}
-use Rattle.figures.specs.declared.Counted.TheVariants as counted
 use Rattle.figures.specs.Figures.{figures_of, count_refusal, CountResult, count_result, counted_answer}
 use Rattle.steps.specs.Writer.{writer_refusal, image_due}
 use Rattle.steps.specs.OfImage.{steps_of_refusal, steps_due}
-use Rattle.writer.specs.declared.Wrote.{Wrote}
-use Rattle.writer.specs.declared.Wrote.TheVariants as wrote
-use Rattle.writer.specs.Wrote.{wrote_answer, Writes, Lists}
+use Rattle.writer.specs.Wrote.{Writes, Lists}
 use Rattle.batch.specs.Batch.{batch_refusal, BatchResult, batch_result}
 use Rattle.batch.specs.Whole.{batched_answer, Batches}
 use Rattle.batch.specs.declared.Batch.{Batch}
-use Rattle.batch.specs.declared.Batch.TheVariants as batch
 use Rattle.batch.proofs.Singles.{as_singles}
 use Rattle.exports.specs.Numbers.{flag, bit, layout_state, layout_args, render_state, render_args}
 use Rattle.exports.specs.Numbers.{file_choice, tallies_from, told_document, told_call, told_file, told_counted}
@@ -57,7 +52,7 @@ use Rattle.demands.specs.Demand3.{Caller, fresh_caller, Made, Promised, after_ma
 use Rattle.demands.specs.Demand3 as made
 use Rattle.demands.specs.Generator.{writer_numbers, steps_numbers}
 use Rattle.demands.specs.Saves.{batch_numbers}
-use Rattle.demands.specs.Linked.{answer_from, checked_from, laying_from, rendering_from, formatted_from, counted_from, wrote_from, batch_from}
+use Rattle.demands.specs.Linked.{reason_of, answer_from, checked_from, laying_from, rendering_from, formatted_from, counted_from, wrote_from, batch_from}
 use Rattle.demands.specs.Linked.{LinkedPromises, Told, Linked1, Linked2, Holder, fresh_holder, LinkedCall, laid, rendered, LinkedPromised}
 use Rattle.demands.specs.Linked.{after_linked, call_linked, held_linked, made_linked, LinkedCut, Linked3, LinkedCallsHoldAll, LinkedLists, LinkedSingles}
 use Rattle.demands.proofs.Demand1.{Under, read_under, layout_under, render_under, file_under, count_under, left_same}
@@ -78,47 +73,67 @@ not_zero ns r f e = go (eqb r.number 0) refl
         let z : ◌≡◌ {A = Bool} true false = sym e ∙ ap (λ (k : ℕ). is_one_of k ns) n ∙ f in
         absurd (let y : ◌≡◌ {A = ℕ} 0 1 = cc in omega arith)
 
-from_accepted : {X : Type 0} (refusing : ℕ → ℕ → X) (x : X) (out2 : List ℕ) → get_or out2 0 0 ≡ 0 → answer_from refusing x out2 ≡ x
-from_accepted refusing x out2 e = ap (λ (n : ℕ). cond (eqb n 0) x (refusing n (get_or out2 1 0))) e
+from_accepted : {X : Type 0} (x : X) (out2 : List ℕ) → get_or out2 0 0 ≡ 0 → answer_from x out2 ≡ Ok x
+from_accepted {X} x out2 e =
+    ap (λ (n : ℕ). let r : Result X Refused = Err (record { reason = reason_of n; place = get_or out2 1 0 }) in cond (eqb n 0) (Ok x) r) e
+
+-- numbers that have a reason
+abbrev all_named : List ℕ → Bool
+all_named [] = true
+all_named (n ∷ ns) = eqb (number_of (reason_of n)) n && all_named ns
+
+named : (ns : List ℕ) → all_named ns ≡ true → (n : ℕ) → is_one_of n ns ≡ true → number_of (reason_of n) ≡ n
+named [] h n e = absurd (false_true e)
+named (k ∷ ns) h n e =
+    let test : Bool = eqb (number_of (reason_of k)) k in
+    go (eqb-true (number_of (reason_of k)) k (and_left test (all_named ns) h)) (named ns (and_right test (all_named ns) h) n) (eqb n k) refl e
+  where
+    go : number_of (reason_of k) ≡ k → (is_one_of n ns ≡ true → number_of (reason_of n) ≡ n) → (t : Bool) → eqb n k ≡ t → (t || is_one_of n ns) ≡ true
+        → number_of (reason_of n) ≡ n
+    go here later true f g = rw (eqb-true n k f) here
+    go here later false f g = later g
 
 flag_bit : (t : Bool) → flag (bit t) ≡ t
 flag_bit true = refl
 flag_bit false = refl
 
 -- a refusal, read from its number and place
-refusal_from : {X A : Type 0} (answer : X → Answer A) (refusing : ℕ → ℕ → X) (x : X) (r : Refusal) (rest : List ℕ)
-    → answer (refusing r.number r.place) ≡ refused r
+refusal_from : {X A : Type 0} (value : X → A) (x : X) (r : Refusal) (rest : List ℕ) → number_of (reason_of r.number) ≡ r.number
     → eqb r.number 0 ≡ false
-    → answer (answer_from refusing x (r.number ∷ r.place ∷ rest)) ≡ refused r
-refusal_from answer refusing x r rest e f = ap (λ (t : Bool). answer (cond t x (refusing r.number r.place))) f ∙ e
+    → answer_of value (answer_from x (r.number ∷ r.place ∷ rest)) ≡ refused r
+refusal_from {X} value x r rest e f =
+    let told : Result X Refused = Err (record { reason = reason_of r.number; place = r.place }) in
+    ap (λ (t : Bool). answer_of value (cond t (Ok x) told)) f ∙ ap (λ (n : ℕ). refused (record { number = n; place = r.place })) e
 
 -- what numbers that begin with 0 tell, and what others tell
 record Reads {X A : Type 0} (answer : X → Answer A) (from : List ℕ → X) (told : A → List ℕ) (a : A) : Type 0 where
-  pub refusal : (r : Refusal) (rest : List ℕ) → eqb r.number 0 ≡ false → answer (from (r.number ∷ r.place ∷ rest)) ≡ refused r
+  pub refusal : (r : Refusal) (rest : List ℕ) → number_of (reason_of r.number) ≡ r.number → eqb r.number 0 ≡ false
+      → answer (from (r.number ∷ r.place ∷ rest)) ≡ refused r
   pub given : (rest : List ℕ) → answer (from ((0 ∷ told a) ++ rest)) ≡ accepted a
 
 -- so the numbers of an answer by a table tell that answer
 read_back : {X A : Type 0} (answer : X → Answer A) (from : List ℕ → X) (told : A → List ℕ) (ns : List ℕ) (o : Option Refusal) (a : A) (out out2 : List ℕ)
     → is_one_of 0 ns ≡ false
+    → all_named ns ≡ true
     → Under ns o
     → 2 ≤ length out
     → suc (length (told a)) ≤ length out
     → Reads answer from told a
     → out2 ≡ numbers_of told (answer_by o a) out
     → answer (from out2) ≡ answer_by o a
-read_back {X} {A} answer from told ns o a out out2 z u two all back e = go o refl
+read_back {X} {A} answer from told ns o a out out2 z w u two all back e = go o refl
   where
     go : (x : Option Refusal) → o ≡ x → answer (from out2) ≡ answer_by x a
-    go none f = ap (λ (l : List ℕ). answer (from l)) (e ∙ told_zero told o a out all f) ∙ back.given (drop (suc (length (told a))) out)
-    go (some r) f =
+    go None f = ap (λ (l : List ℕ). answer (from l)) (e ∙ told_zero told o a out all f) ∙ back.given (drop (suc (length (told a))) out)
+    go (Some r) f =
         ap (λ (l : List ℕ). answer (from l)) (e ∙ told_refusal told o a out r two f)
-        ∙ back.refusal r (drop 2 out) (not_zero ns r z (u.of r f))
+        ∙ back.refusal r (drop 2 out) (named ns w r.number (u.of r f)) (not_zero ns r z (u.of r f))
 
 -- the first numbers of it
 told_first : {A : Type 0} (told : A → List ℕ) (ns : List ℕ) (o : Option Refusal) (a : A) (out out2 : List ℕ) (Kept : Type 0) → Under ns o
     → 2 ≤ length out
     → suc (length (told a)) ≤ length out
-    → ((r : Refusal) → o ≡ some r → Kept)
+    → ((r : Refusal) → o ≡ Some r → Kept)
     → out2 ≡ numbers_of told (answer_by o a) out
     → Told ns o out2 Kept
 told_first told ns o a out out2 Kept u two all kept e = record {
@@ -149,12 +164,12 @@ check_told s b out out2 e =
     e ∙ ap (λ (a : Answer Document). numbers_of (told_document (length (declared s b))) a out) (outcome_by (read_all s b))
 
 -- ---- what the numbers of each entry tell
-checked_reads : (d : ℕ) (a : Document) → Reads checked_answer checked_from (told_document d) a
-checked_reads d a = record { refusal = λ r rest. refusal_from checked_answer checked.Refused _ r rest refl; given = λ rest. refl }
+checked_reads : (d : ℕ) (a : Document) → Reads (answer_of (λ d. d)) checked_from (told_document d) a
+checked_reads d a = record { refusal = λ r rest. refusal_from (λ d. d) _ r rest; given = λ rest. refl }
 
 laying_reads : (s b : List ℕ) (t : states.LayoutState) (n : ℕ) → Reads (layout.laying_answer s b) laying_from (told_call s b) (laid_out t n)
 laying_reads s b t n = record {
-  refusal = λ r rest. refusal_from (layout.laying_answer s b) laying.Refused _ r rest refl;
+  refusal = λ r rest. refusal_from _ _ r rest;
   given =
       λ rest i.
       accepted
@@ -171,21 +186,21 @@ laying_reads s b t n = record {
 
 rendering_reads : (s b : List ℕ) (t : states.RenderState) (n : ℕ) → Reads (render.rendering_answer s b) rendering_from (told_call s b) (written t n)
 rendering_reads s b t n = record {
-  refusal = λ r rest. refusal_from (render.rendering_answer s b) rendering.Refused _ r rest refl;
+  refusal = λ r rest. refusal_from _ _ r rest;
   given = λ rest. refl;
 }
 
 formatted_reads : (a : FileResult) → Reads formatted_answer formatted_from told_file a
-formatted_reads a = record { refusal = λ r rest. refusal_from formatted_answer formatted.Refused _ r rest refl; given = λ rest. refl }
+formatted_reads a = record { refusal = λ r rest. refusal_from _ _ r rest; given = λ rest. refl }
 
 counted_reads : (a : CountResult) → Reads counted_answer counted_from told_counted a
-counted_reads a = record { refusal = λ r rest. refusal_from counted_answer counted.Refused _ r rest refl; given = λ rest. refl }
+counted_reads a = record { refusal = λ r rest. refusal_from _ _ r rest; given = λ rest. refl }
 
-wrote_reads : (n : ℕ) → Reads wrote_answer wrote_from told_bytes n
-wrote_reads n = record { refusal = λ r rest. refusal_from wrote_answer wrote.Refused _ r rest refl; given = λ rest. refl }
+wrote_reads : (n : ℕ) → Reads (answer_of (λ n. n)) wrote_from told_bytes n
+wrote_reads n = record { refusal = λ r rest. refusal_from _ _ r rest; given = λ rest. refl }
 
 batch_reads : (a : BatchResult) → Reads batched_answer batch_from told_batch a
-batch_reads a = record { refusal = λ r rest. refusal_from batched_answer batch.Refused _ r rest refl; given = λ rest. refl }
+batch_reads a = record { refusal = λ r rest. refusal_from _ _ r rest; given = λ rest. refl }
 
 -- ---- the promises
 pub linked_promises : LinkedPromises
@@ -193,7 +208,7 @@ linked_promises = record {
   check =
       λ s b out out2 h e.
       let x = read_all s b in
-      read_back checked_answer checked_from (told_document (length (declared s b))) reader_numbers (read_refusal x) (document_by x) out out2 refl (read_under s b)
+      read_back (answer_of (λ (d : Document). d)) checked_from (told_document (length (declared s b))) reader_numbers (read_refusal x) (document_by x) out out2 refl refl (read_under s b)
       (omega arith)
       (omega arith)
       (checked_reads (length (declared s b)) (document_by x))
@@ -206,7 +221,7 @@ linked_promises = record {
       let o = (rules_of s b).layout_refusal q z store in
       record {
         answer =
-            read_back (layout.laying_answer s b) laying_from (told_call s b) layout_numbers o (laid_out _ _) out out2 refl (layout_under s b q z store)
+            read_back (layout.laying_answer s b) laying_from (told_call s b) layout_numbers o (laid_out _ _) out out2 refl refl (layout_under s b q z store)
             (omega arith)
             (omega arith)
             (laying_reads s b _ _)
@@ -220,7 +235,7 @@ linked_promises = record {
       let o = (rules_of s b).render_refusal q z store marks in
       record {
         answer =
-            read_back (render.rendering_answer s b) rendering_from (told_call s b) render_numbers o (written _ _) out out2 refl (render_under s b q z store marks)
+            read_back (render.rendering_answer s b) rendering_from (told_call s b) render_numbers o (written _ _) out out2 refl refl (render_under s b q z store marks)
             (omega arith)
             (omega arith)
             (rendering_reads s b _ _)
@@ -235,7 +250,7 @@ linked_promises = record {
       let o = file_refusal s b c (length output) in
       record {
         answer =
-            read_back formatted_answer formatted_from told_file file_numbers o (file_result s b c) out out2 refl (file_under s b c (length output))
+            read_back formatted_answer formatted_from told_file file_numbers o (file_result s b c) out out2 refl refl (file_under s b c (length output))
             (omega arith)
             (omega arith)
             (formatted_reads (file_result s b c))
@@ -245,7 +260,7 @@ linked_promises = record {
   count =
       λ s b from out out2 h e.
       let t = tallies_from from in
-      read_back counted_answer counted_from told_counted count_numbers (count_refusal s b t) (count_result (figures_of s b) t) out out2 refl (count_under s b t)
+      read_back counted_answer counted_from told_counted count_numbers (count_refusal s b t) (count_result (figures_of s b) t) out out2 refl refl (count_under s b t)
       (omega arith)
       (omega arith)
       (counted_reads (count_result (figures_of s b) t))
@@ -253,7 +268,7 @@ linked_promises = record {
   write =
       λ l output out output2 out2 h p.
       let o = writer_refusal l (length output) in (
-        read_back wrote_answer wrote_from told_bytes writer_numbers o (length (image_due l)) out out2 refl (write_under l (length output))
+        read_back (answer_of (λ (n : ℕ). n)) wrote_from told_bytes writer_numbers o (length (image_due l)) out out2 refl refl (write_under l (length output))
             (omega arith)
             (omega arith)
             (wrote_reads (length (image_due l)))
@@ -263,7 +278,7 @@ linked_promises = record {
   steps =
       λ s b output out output2 out2 h p.
       let o = steps_of_refusal s b (length output) in (
-        read_back wrote_answer wrote_from told_bytes steps_numbers o (length (steps_due s b)) out out2 refl (list_under s b (length output))
+        read_back (answer_of (λ (n : ℕ). n)) wrote_from told_bytes steps_numbers o (length (steps_due s b)) out out2 refl refl (list_under s b (length output))
             (omega arith)
             (omega arith)
             (wrote_reads (length (steps_due s b)))
@@ -276,7 +291,7 @@ linked_promises = record {
       let o = batch_refusal c f (length table) (length output) in
       record {
         answer =
-            read_back batched_answer batch_from told_batch batch_numbers o (batch_result c f) out out2 refl (batch_under c f (length table) (length output))
+            read_back batched_answer batch_from told_batch batch_numbers o (batch_result c f) out out2 refl refl (batch_under c f (length table) (length output))
             (omega arith)
             (omega arith)
             (batch_reads (batch_result c f))
@@ -352,37 +367,37 @@ linked_1 = record {
 
 -- ---- demand 2: where 0 is first, the answer is the accepted one
 pub linked_layout : (s b store state args out store2 out2 : List ℕ) → length out ≡ 10 → Lays s b store state args out store2 out2 → get_or out2 0 0 ≡ 0
-    → LayoutCalled s b (layout_state state) (layout_args args) store (laying.Laid (layout_state (take 8 (drop 2 out2))) (get_or out2 1 0)) store2
+    → LayoutCalled s b (layout_state state) (layout_args args) store (Ok (record { state = layout_state (take 8 (drop 2 out2)); left = get_or out2 1 0 })) store2
 linked_layout s b store state args out store2 out2 h p e =
-    subst (λ (r : Laying). LayoutCalled s b (layout_state state) (layout_args args) store r store2) (from_accepted laying.Refused _ out2 e)
+    subst (λ (r : Result Laid Refused). LayoutCalled s b (layout_state state) (layout_args args) store r store2) (from_accepted _ out2 e)
     (linked_promises.layout s b store state args out store2 out2 h p)
 
 pub linked_render : (s b store marks output state args out store2 marks2 output2 out2 : List ℕ) → length out ≡ 8
     → Renders s b store marks output state args out store2 marks2 output2 out2
     → get_or out2 0 0 ≡ 0
     → RenderCalled s b (render_state state) (render_args args) store marks output
-    (rendering.Written (render_state (take 6 (drop 2 out2))) (record { 0 = get_or out2 1 0 }))
+    (Ok (record { state = render_state (take 6 (drop 2 out2)); bytes = record { 0 = get_or out2 1 0 } }))
     store2
     marks2
     output2
 linked_render s b store marks output state args out store2 marks2 output2 out2 h p e =
-    subst (λ (r : Rendering). RenderCalled s b (render_state state) (render_args args) store marks output r store2 marks2 output2)
-    (from_accepted rendering.Refused _ out2 e)
+    subst (λ (r : Result Written Refused). RenderCalled s b (render_state state) (render_args args) store marks output r store2 marks2 output2)
+    (from_accepted _ out2 e)
     (linked_promises.render s b store marks output state args out store2 marks2 output2 out2 h p)
 
 pub linked_file : (s b choice output out output2 out2 : List ℕ) → length out ≡ 5 → FormatsFile s b choice output out output2 out2 → get_or out2 0 0 ≡ 0
     → Formats s b (to_choice (file_choice choice)) output
-    (formatted.Text (record { 0 = get_or out2 1 0 }) (get_or out2 2 0) (get_or out2 3 0) (get_or out2 4 0))
+    (Ok (record { bytes = record { 0 = get_or out2 1 0 }; left = get_or out2 2 0; rows = get_or out2 3 0; numbers = get_or out2 4 0 }))
     output2
 linked_file s b choice output out output2 out2 h p e =
-    subst (λ (r : Formatted). Formats s b (to_choice (file_choice choice)) output r output2) (from_accepted formatted.Refused _ out2 e)
+    subst (λ (r : Result Text Refused). Formats s b (to_choice (file_choice choice)) output r output2) (from_accepted _ out2 e)
     (linked_promises.format s b choice output out output2 out2 h p)
 
 pub linked_batch : (f choice table output out table2 output2 out2 : List ℕ) → length out ≡ 3 → FormatsBatch f choice table output out table2 output2 out2
     → get_or out2 0 0 ≡ 0
-    → Batches f (to_choice (file_choice choice)) table output (batch.Done (get_or out2 1 0) (get_or out2 2 0)) table2 output2
+    → Batches f (to_choice (file_choice choice)) table output (Ok (record { files = get_or out2 1 0; bytes = get_or out2 2 0 })) table2 output2
 linked_batch f choice table output out table2 output2 out2 h p e =
-    subst (λ (r : Batch). Batches f (to_choice (file_choice choice)) table output r table2 output2) (from_accepted batch.Refused _ out2 e)
+    subst (λ (r : Result Batch Refused). Batches f (to_choice (file_choice choice)) table output r table2 output2) (from_accepted _ out2 e)
     (linked_promises.batch f choice table output out table2 output2 out2 h p)
 
 pub linked_2 : Linked2
@@ -414,6 +429,9 @@ after_one w (laid args out store2 out2) = go (eqb (get_or out2 0 0) 0)
     new : List ℕ
     new = take 8 (drop 2 out2)
 
+    told : Refused
+    told = record { reason = reason_of (get_or out2 0 0); place = get_or out2 1 0 }
+
     go : (x : Bool)
         → caller_of (record {
           store = store2;
@@ -421,10 +439,10 @@ after_one w (laid args out store2 out2) = go (eqb (get_or out2 0 0) 0)
           layout_state_of = cond x new w.layout_state_of;
           render_state_of = w.render_state_of;
           text = w.text;
-          left = cond x (some (get_or out2 1 0)) w.left;
+          left = cond x (Some (get_or out2 1 0)) w.left;
         })
         ≡ after_made (caller_of w)
-        (made.laid (layout_args args) (cond x (laying.Laid (layout_state new) (get_or out2 1 0)) (laying.Refused (get_or out2 0 0) (get_or out2 1 0))) store2)
+        (made.laid (layout_args args) (cond x (Ok (record { state = layout_state new; left = get_or out2 1 0 })) (Err told)) store2)
     go true = refl
     go false = refl
 after_one w (rendered args output out store2 marks2 output2 out2) = go (eqb (get_or out2 0 0) 0)
@@ -432,8 +450,10 @@ after_one w (rendered args output out store2 marks2 output2 out2) = go (eqb (get
     new : List ℕ
     new = take 6 (drop 2 out2)
 
-    answer : Bool → Rendering
-    answer x = cond x (rendering.Written (render_state new) (record { 0 = get_or out2 1 0 })) (rendering.Refused (get_or out2 0 0) (get_or out2 1 0))
+    answer : Bool → Result Written Refused
+    answer x =
+        cond x (Ok (record { state = render_state new; bytes = record { 0 = get_or out2 1 0 } }))
+        (Err (record { reason = reason_of (get_or out2 0 0); place = get_or out2 1 0 }))
 
     go : (x : Bool)
         → caller_of (record {
@@ -538,12 +558,12 @@ linked_lists = record {
   one =
       λ s b output out output2 out2 h small p z.
       generator_lists.one s b output (get_or out2 1 0) output2 small
-      (subst (λ (r : Wrote). Lists s b output r output2) (from_accepted wrote.Refused (wrote.Bytes (get_or out2 1 0)) out2 z)
+      (subst (λ (r : Result ℕ Refused). Lists s b output r output2) (from_accepted (get_or out2 1 0) out2 z)
       (linked_promises.steps s b output out output2 out2 h p));
   back =
       λ l output out output2 out2 h small p z.
       generator_lists.back l output (get_or out2 1 0) output2 small
-      (subst (λ (r : Wrote). Writes l output r output2) (from_accepted wrote.Refused (wrote.Bytes (get_or out2 1 0)) out2 z)
+      (subst (λ (r : Result ℕ Refused). Writes l output r output2) (from_accepted (get_or out2 1 0) out2 z)
       (linked_promises.write l output out output2 out2 h p));
 }
 

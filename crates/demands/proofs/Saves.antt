@@ -16,7 +16,7 @@ use Rattle.batch.proofs.Buffer.{cut_number}
 use Rattle.batch.proofs.Rooms.{early, single_by}
 use Rattle.batch.proofs.Singles.{as_singles}
 use Rattle.demands.specs.Saves.{batch_numbers, row_numbers, Saves1}
-use Rattle.demands.proofs.Demand1.{Under, under_if, under_first, under_read, under_more, read_under, before_under, early_under, answered, left_same}
+use Rattle.demands.proofs.Demand1.{Under, under_if, under_first, under_read, under_more, read_under, before_under, early_under, answered, left_same, as_answer}
 
 -- ---- the batch's table
 frames_under : (f : List ℕ) → Under batch_numbers (read_refusal (all_saves f))
@@ -45,7 +45,7 @@ saves_1 = record {
   batch =
       λ f c table out r table2 out2 p.
       let o = batch_refusal c f (length table) (length out) in
-      answered (ap refusal_of p.answer ∙ by_table o _) (batch_under c f (length table) (length out))
+      answered (as_answer _ r ∙ ap refusal_of p.answer ∙ by_table o _) (batch_under c f (length table) (length out))
       (λ q g. (p.table_left_of ∙ left_same o q table _ g, p.texts_left_of ∙ left_same o q out _ g));
   row = λ c x r e. (row_under c x).of r (refused_by (early c x) _ r (sym e ∙ single_by c x));
   singles = as_singles;

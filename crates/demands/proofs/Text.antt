@@ -1,7 +1,7 @@
 -- What the entries write is the text of the rules, which is the comments and the program.
 -- Assumes nothing.
 use mathlib.Core.Path.{◌≡◌, refl, sym, ap, subst, subst₂, ◌∙◌}
-use mathlib.Core.Option.{Option, none as no_refusal, some}
+use Rattle.std.specs.Prelude.{Option, None as no_refusal, Some}
 use mathlib.Core.List.{List, [], ◌∷◌, ◌++◌, map}
 use Prim.Native.Nat.{ℕ, ◌*◌, ◌-◌}
 use native.Mathlib.Omega.{arith}
@@ -103,7 +103,7 @@ module _ (c : FileChoice) where
 
       go : (o : Option Refusal) → file_refusal s b c (length text) ≡ o
           → EachKept c (x ∷ xs) (row_of (answered o) ++ table) (text_by (answered o) text ++ texts)
-      go (some r) e = refused_one r (ap answered e) k
+      go (Some r) e = refused_one r (ap answered e) k
       go no_refusal e =
           text_of_one text
           (record {

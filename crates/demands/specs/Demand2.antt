@@ -5,7 +5,7 @@
 -- (crates/renderer_rules/specs/Renderer.antt), for a whole document `drawn_due` (crates/whole_run/specs/Built.antt), in each mode and at every width
 -- that is accepted. The old mode is the Rust's; of the new one it is said what closing adds, and that no comment is left.
 -- That the Rust's own choices give what there was before one could be made is `ReferenceHolds` (crates/whole_run/specs/Reference.antt).
-use Rattle.std.specs.Prelude.{◌≡◌, true, false, List, ℕ, ◌-◌, length, take}
+use Rattle.std.specs.Prelude.{◌≡◌, true, false, List, ℕ, ◌-◌, length, take, Ok}
 use Rattle.rows.specs.Rows.{sizes, rows}
 use Rattle.rows.specs.declared.units.Bytes.{Bytes}
 use Rattle.acts.specs.Act.{Out}
@@ -20,12 +20,9 @@ use Rattle.whole_run.specs.Reference.{ReferenceHolds}
 use Rattle.whole_run.specs.File.{OldModeIsFmtParsed, NewModeLeavesNone}
 use Rattle.whole_run.specs.Built.{FileChoice, built, drawn_due, tree, declared}
 use Rattle.layout_call.specs.declared.LayoutState.{LayoutState}
-use Rattle.layout_call.specs.declared.Laying.TheVariants as laying
 use Rattle.layout_call.specs.Whole.{LayoutCalled}
 use Rattle.render_call.specs.declared.RenderState.{RenderState}
-use Rattle.render_call.specs.declared.Rendering.TheVariants as rendering
 use Rattle.render_call.specs.Whole.{RenderCalled}
-use Rattle.file.specs.declared.Formatted.TheVariants as answer
 use Rattle.file.specs.Whole.{Formats}
 use Rattle.demands.specs.Fresh.{fresh_layout, fresh_render}
 
@@ -42,19 +39,19 @@ pub record LaidOutAs (b : List ℕ) (o : Out) (store : List ℕ) (t : LayoutStat
 -- a layout call from fresh up to declaration n, in either mode: "those `fmt_parsed` has when its loop reaches that declaration"
 abbrev pub AtStopDue : Type 0
 AtStopDue = (s b store : List ℕ) (mode n : ℕ) (t : LayoutState) (left : ℕ) (store2 : List ℕ)
-    → LayoutCalled s b fresh_layout (record { stop = n; close = false; mode = mode }) store (laying.Laid t left) store2
+    → LayoutCalled s b fresh_layout (record { stop = n; close = false; mode = mode }) store (Ok (record { state = t; left = left })) store2
     → LaidOutAs b (up_to (given s b) (tree s b) (take n (declared s b)) fresh) store t left store2
 
 -- and closing in the old mode: those that it has in the end
 abbrev pub ClosedDue : Type 0
 ClosedDue = (s b store : List ℕ) (t : LayoutState) (left : ℕ) (store2 : List ℕ)
-    → LayoutCalled s b fresh_layout (record { stop = length (declared s b); close = true; mode = OLD_MODE }) store (laying.Laid t left) store2
+    → LayoutCalled s b fresh_layout (record { stop = length (declared s b); close = true; mode = OLD_MODE }) store (Ok (record { state = t; left = left })) store2
     → LaidOutAs b (fmt_parsed (given s b) (tree s b) fresh) store t left store2
 
 -- and in the new mode: the same, with every comment that waits before the final `Line`; "0 left"
 abbrev pub ClosedKeepingDue : Type 0
 ClosedKeepingDue = (s b store : List ℕ) (t : LayoutState) (left : ℕ) (store2 : List ℕ)
-    → LayoutCalled s b fresh_layout (record { stop = length (declared s b); close = true; mode = NEW_MODE }) store (laying.Laid t left) store2
+    → LayoutCalled s b fresh_layout (record { stop = length (declared s b); close = true; mode = NEW_MODE }) store (Ok (record { state = t; left = left })) store2
     → LaidOutAs b (whole_rule (given s b) (tree s b) true fresh) store t left store2 × (left ≡ 0)
 
 -- ---- rendering
@@ -67,9 +64,9 @@ pub record DrawnAs (s b : List ℕ) (c : FileChoice) (marks out : List ℕ) (byt
 -- a rendering call from fresh over all rows that such a layout call left, in the mode and at the width that the two chose
 abbrev pub RenderedDue : Type 0
 RenderedDue = (s b store : List ℕ) (mode : ℕ) (t : LayoutState) (left : ℕ) (store2 : List ℕ)
-    → LayoutCalled s b fresh_layout (record { stop = length (declared s b); close = true; mode = mode }) store (laying.Laid t left) store2
+    → LayoutCalled s b fresh_layout (record { stop = length (declared s b); close = true; mode = mode }) store (Ok (record { state = t; left = left })) store2
     → (width : ℕ) (marks out : List ℕ) (u : RenderState) (n : Bytes) (store3 marks2 out2 : List ℕ)
-    → RenderCalled s b fresh_render (record { stop = t.row; width = record { 0 = width } }) store2 marks out (rendering.Written u n) store3 marks2 out2
+    → RenderCalled s b fresh_render (record { stop = t.row; width = record { 0 = width } }) store2 marks out (Ok (record { state = u; bytes = n })) store3 marks2 out2
     → DrawnAs s b (record { width = width; mode = mode }) marks out n.0 marks2 out2
 
 -- ---- a whole file
@@ -82,7 +79,7 @@ pub record FileAs (s b : List ℕ) (c : FileChoice) (out : List ℕ) (bytes left
 
 abbrev pub FileDue : Type 0
 FileDue = (s b : List ℕ) (c : FileChoice) (out : List ℕ) (n : Bytes) (left count numbers : ℕ) (out2 : List ℕ)
-    → Formats s b c out (answer.Text n left count numbers) out2
+    → Formats s b c out (Ok (record { bytes = n; left = left; rows = count; numbers = numbers })) out2
     → FileAs s b c out n.0 left count numbers out2
 
 -- ---- the demand

@@ -2,9 +2,9 @@
 -- whatever list of calls a caller makes, refused ones included, in which no accepted call reads rows not yet laid out, what it then holds is what
 -- the plain run of document 01 has due, in both modes. proofs/Demand3.antt proves it. (Without that condition it is false: crates/cut_rule/proofs/Example.antt.)
 -- What is due: crates/cut_rule/specs/Plain.antt; by which rules and which table: crates/whole_run/specs/Parts.antt.
-use Rattle.std.specs.Prelude.{◌≡◌, true, List, [], ◌++◌, map, ℕ, length, take}
-use Rattle.std.proofs.Math.Option.{Option, none, some}
+use Rattle.std.specs.Prelude.{◌≡◌, true, List, [], ◌++◌, map, ℕ, length, take, Option, None, Some, Result, Ok, Err}
 use Rattle.refusals.specs.Answers.{Answer}
+use Rattle.refusals.specs.declared.Refused.{Refused}
 use Rattle.cut_rule.specs.Run.{Call, layout_call, render_call, Carried, CallResult, start}
 use Rattle.cut_rule.specs.Plain.{AllReadLaid, at_first, due, plain, answers_due}
 use Rattle.cut_rule.specs.CutRule.{CommentsKept}
@@ -15,14 +15,12 @@ use Rattle.whole_run.specs.Demands.{rules_of}
 use Rattle.whole_run.specs.Foot.{HoldsAll}
 use Rattle.layout_call.specs.declared.LayoutState.{LayoutState}
 use Rattle.layout_call.specs.declared.LayoutArgs.{LayoutArgs}
-use Rattle.layout_call.specs.declared.Laying.{Laying}
-use Rattle.layout_call.specs.declared.Laying.TheVariants as laying
+use Rattle.layout_call.specs.declared.Laid.{Laid}
 use Rattle.layout_call.specs.Calls as layout
 use Rattle.layout_call.specs.Whole.{LayoutCalled}
 use Rattle.render_call.specs.declared.RenderState.{RenderState}
 use Rattle.render_call.specs.declared.RenderArgs.{RenderArgs}
-use Rattle.render_call.specs.declared.Rendering.{Rendering}
-use Rattle.render_call.specs.declared.Rendering.TheVariants as rendering
+use Rattle.render_call.specs.declared.Written.{Written}
 use Rattle.render_call.specs.Calls as render
 use Rattle.render_call.specs.Whole.{RenderCalled}
 use Rattle.demands.specs.Fresh.{fresh_layout, fresh_render}
@@ -45,13 +43,13 @@ fresh_caller store₀ marks₀ = record {
   layout_state_of = fresh_layout;
   render_state_of = fresh_render;
   text = [];
-  left = none;
+  left = None;
 }
 
 -- a call that was made: its arguments, its answer, and the buffers at exit
 pub data Made : Type 0 where
-  laid : LayoutArgs → Laying → (store2 : List ℕ) → Made
-  rendered : RenderArgs → (out : List ℕ) → Rendering → (store2 marks2 out2 : List ℕ) → Made
+  laid : LayoutArgs → Result Laid Refused → (store2 : List ℕ) → Made
+  rendered : RenderArgs → (out : List ℕ) → Result Written Refused → (store2 marks2 out2 : List ℕ) → Made
 
 -- the function's own promise, for what the caller held
 abbrev pub Promised : (s b : List ℕ) → Caller → Made → Type 0
@@ -60,27 +58,27 @@ Promised s b w (rendered args out r store2 marks2 out2) =
     RenderCalled s b w.render_state_of args w.store w.marks out r store2 marks2 out2
 
 -- what the caller keeps of an answer: a new state, the comments left, the bytes written
-abbrev pub keep_laying : Laying → Caller → Caller
-keep_laying (laying.Laid t n) w = record {
+abbrev pub keep_laying : Result Laid Refused → Caller → Caller
+keep_laying (Ok t) w = record {
   store = w.store;
   marks = w.marks;
-  layout_state_of = t;
+  layout_state_of = t.state;
   render_state_of = w.render_state_of;
   text = w.text;
-  left = some n;
+  left = Some t.left;
 }
-keep_laying (laying.Refused n p) w = w
+keep_laying (Err r) w = w
 
-abbrev pub keep_rendering : Rendering → List ℕ → Caller → Caller
-keep_rendering (rendering.Written t n) out w = record {
+abbrev pub keep_rendering : Result Written Refused → List ℕ → Caller → Caller
+keep_rendering (Ok t) out w = record {
   store = w.store;
   marks = w.marks;
   layout_state_of = w.layout_state_of;
-  render_state_of = t;
-  text = w.text ++ take n.0 out;
+  render_state_of = t.state;
+  text = w.text ++ take t.bytes.0 out;
   left = w.left;
 }
-keep_rendering (rendering.Refused n p) out w = w
+keep_rendering (Err r) out w = w
 
 -- what it holds after a call
 abbrev pub after_made : Caller → Made → Caller
@@ -115,7 +113,7 @@ held s b w = record {
 -- in order, each once, the others being left
 pub record HeldAsDue (s b store₀ marks₀ : List ℕ) (calls : List (Call (rules_of s b))) (v : Carried (rules_of s b)) : Type 0 where
   pub same : v ≡ due (rules_of s b) store₀ marks₀ (plain (rules_of s b) store₀ marks₀ (at_first (rules_of s b)) calls)
-  pub comments : (n : ℕ) → v.left ≡ some n → CommentsKept (rules_of s b) (listed s b) v n
+  pub comments : (n : ℕ) → v.left ≡ Some n → CommentsKept (rules_of s b) (listed s b) v n
 
 -- and so is every answer
 pub record CallsCut (s b store₀ marks₀ : List ℕ) (made : List Made) : Type 0 where
@@ -148,7 +146,7 @@ pub record ClosedAll (s b : List ℕ) (t : LayoutState) (left : ℕ) : Type 0 wh
 abbrev pub ClosingLeavesNone : Type 0
 ClosingLeavesNone =
     (s b : List ℕ) (state : LayoutState) (args : LayoutArgs) (store : List ℕ) (t : LayoutState) (left : ℕ) (store2 : List ℕ)
-    → LayoutCalled s b state args store (laying.Laid t left) store2
+    → LayoutCalled s b state args store (Ok (record { state = t; left = left })) store2
     → args.close ≡ true
     → args.mode ≡ NEW_MODE
     → ClosedAll s b t left

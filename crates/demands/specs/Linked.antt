@@ -1,12 +1,13 @@
 -- The functions that other languages link, `rrufthim_check`, `rrufthim_layout`, `rrufthim_render`, `rrufthim_format`, `rrufthim_count`, `rrufthim_write`, `rrufthim_steps` and
 -- `rrufthim_batch`. Their answers and states are arrays of so many numbers. What the numbers of an answer tell is an answer of the function in Rattle, and that function's
 -- promise holds of it (`LinkedPromises`). So the three demands and the sentences of requests 4, 5 and 7 hold of what is linked. proofs/Linked.antt proves it.
-use Rattle.std.specs.Prelude.{◌≡◌, true, cond, List, [], ◌∷◌, ◌++◌, map, ℕ, eqb, length, get_or, take, drop, replicate}
-use Rattle.std.proofs.Math.Option.{Option, none, some}
+use Rattle.std.specs.Prelude.{◌≡◌, true, cond, List, [], ◌∷◌, ◌++◌, map, ℕ, eqb, length, get_or, take, drop, replicate, Option, None, Some, Result, Ok, Err}
 use Rattle.refusals.specs.Refusals.{Refusal, is_one_of}
+use Rattle.refusals.specs.declared.Reason.{Reason}
+use Rattle.refusals.specs.declared.Reason.TheVariants as reason
+use Rattle.refusals.specs.declared.Refused.{Refused}
 use Rattle.image.specs.Read.{read_all, reader_numbers, Checks, read_refusal}
-use Rattle.image.specs.declared.Answer.{Answer as Checked}
-use Rattle.image.specs.declared.Answer.TheVariants as checked
+use Rattle.image.specs.declared.Document.{Document}
 use Rattle.comments.specs.Listed.{given}
 use Rattle.layout.specs.Layout.{fmt_parsed}
 use Rattle.layout.specs.Closing.{fresh, up_to, whole_rule}
@@ -18,31 +19,24 @@ use Rattle.whole_run.specs.Demands.{rules_of}
 use Rattle.whole_run.specs.File.{file_refusal}
 use Rattle.whole_run.specs.Foot.{HoldsAll}
 use Rattle.whole_run.specs.Built.{tree, declared}
-use Rattle.layout_call.specs.declared.Laying.{Laying}
-use Rattle.layout_call.specs.declared.Laying.TheVariants as laying
+use Rattle.layout_call.specs.declared.Laid.{Laid}
 use Rattle.layout_call.specs.Calls as layout
 use Rattle.layout_call.specs.Whole.{LayoutCalled}
-use Rattle.render_call.specs.declared.Rendering.{Rendering}
-use Rattle.render_call.specs.declared.Rendering.TheVariants as rendering
+use Rattle.render_call.specs.declared.Written.{Written}
 use Rattle.render_call.specs.Calls as render
 use Rattle.render_call.specs.Whole.{RenderCalled}
-use Rattle.file.specs.declared.Formatted.{Formatted}
-use Rattle.file.specs.declared.Formatted.TheVariants as formatted
+use Rattle.file.specs.declared.Text.{Text}
 use Rattle.file.specs.Whole.{to_choice, Formats}
 use Rattle.figures.specs.declared.Counted.{Counted}
-use Rattle.figures.specs.declared.Counted.TheVariants as counted
 use Rattle.figures.specs.Figures.{count_refusal, Counts}
 use Rattle.steps.specs.Exact.{Bytes}
 use Rattle.steps.specs.Writer.{writer_refusal}
 use Rattle.steps.specs.OfImage.{steps_of_refusal}
-use Rattle.writer.specs.declared.Wrote.{Wrote}
-use Rattle.writer.specs.declared.Wrote.TheVariants as wrote
 use Rattle.writer.specs.Wrote.{Writes, Lists}
 use Rattle.batch.specs.Batch.{all_saves, saves_by, batch_refusal}
 use Rattle.batch.specs.Whole.{Batches}
 use Rattle.batch.specs.Singles as singles
 use Rattle.batch.specs.declared.Batch.{Batch}
-use Rattle.batch.specs.declared.Batch.TheVariants as batch
 use Rattle.exports.specs.Numbers.{layout_state, layout_args, render_state, render_args, file_choice, figures_from, tallies_from}
 use Rattle.exports.specs.Calls.{ChecksFile, CountsFile, Lays, Renders, FormatsFile}
 use Rattle.exports.specs.Generator.{WritesImage, ListsSteps}
@@ -59,31 +53,56 @@ use Rattle.demands.specs.Saves.{batch_numbers}
 abbrev pub if_accepted : {A : Type 0} → List ℕ → A → A → A
 if_accepted out2 new old = cond (eqb (get_or out2 0 0) 0) new old
 
--- an answer, by what it tells where it begins with 0, and what a refusal is
-abbrev pub answer_from : {A : Type 0} → (ℕ → ℕ → A) → A → List ℕ → A
-answer_from refused told out2 = if_accepted out2 told (refused (get_or out2 0 0) (get_or out2 1 0))
+-- the reason that a refusal's number stands for
+abbrev pub reason_of : ℕ → Reason
+reason_of n =
+    cond (eqb n 1) reason.SourceTooLong
+    (cond (eqb n 2) reason.SourceNotUtf8
+    (cond (eqb n 3) reason.Header
+    (cond (eqb n 4) reason.Record
+    (cond (eqb n 5) reason.Depth
+    (cond (eqb n 6) reason.Span
+    (cond (eqb n 7) reason.Comments
+    (cond (eqb n 8) reason.RowsNeeded
+    (cond (eqb n 9) reason.MarksNeeded
+    (cond (eqb n 10) reason.BytesNeeded
+    (cond (eqb n 11) reason.Rows
+    (cond (eqb n 12) reason.State
+    (cond (eqb n 13) reason.Frame
+    (cond (eqb n 14) reason.Tallies
+    (cond (eqb n 15) reason.Width
+    (cond (eqb n 16) reason.Steps
+    (cond (eqb n 17) reason.ImageNeeds
+    (cond (eqb n 18) reason.Frames
+    reason.BatchNeeds)))))))))))))))))
 
-abbrev pub checked_from : List ℕ → Checked
-checked_from o = answer_from checked.Refused (checked.Accepted (record { comments = get_or o 1 0; tree = get_or o 2 0 })) o
+-- an answer, by what it tells where it begins with 0
+abbrev pub answer_from : {A : Type 0} → A → List ℕ → Result A Refused
+answer_from told o = if_accepted o (Ok told) (Err (record { reason = reason_of (get_or o 0 0); place = get_or o 1 0 }))
 
-abbrev pub laying_from : List ℕ → Laying
-laying_from o = answer_from laying.Refused (laying.Laid (layout_state (take 8 (drop 2 o))) (get_or o 1 0)) o
+abbrev pub checked_from : List ℕ → Result Document Refused
+checked_from o = answer_from (record { comments = get_or o 1 0; tree = get_or o 2 0 }) o
 
-abbrev pub rendering_from : List ℕ → Rendering
-rendering_from o = answer_from rendering.Refused (rendering.Written (render_state (take 6 (drop 2 o))) (record { 0 = get_or o 1 0 })) o
+abbrev pub laying_from : List ℕ → Result Laid Refused
+laying_from o = answer_from (record { state = layout_state (take 8 (drop 2 o)); left = get_or o 1 0 }) o
 
-abbrev pub formatted_from : List ℕ → Formatted
-formatted_from o = answer_from formatted.Refused (formatted.Text (record { 0 = get_or o 1 0 }) (get_or o 2 0) (get_or o 3 0) (get_or o 4 0)) o
+abbrev pub rendering_from : List ℕ → Result Written Refused
+rendering_from o = answer_from (record { state = render_state (take 6 (drop 2 o)); bytes = record { 0 = get_or o 1 0 } }) o
 
-abbrev pub counted_from : List ℕ → Counted
+abbrev pub formatted_from : List ℕ → Result Text Refused
+formatted_from o = answer_from (record { bytes = record { 0 = get_or o 1 0 }; left = get_or o 2 0; rows = get_or o 3 0; numbers = get_or o 4 0 }) o
+
+abbrev pub counted_from : List ℕ → Result Counted Refused
 counted_from o =
-    answer_from counted.Refused (counted.File (figures_from 1 o) (tallies_from (drop 8 o)) (record { over = get_or o 16 0; under = get_or o 17 0 })) o
+    answer_from
+    (record { figures = figures_from 1 o; tallies = tallies_from (drop 8 o); wrapped = record { over = get_or o 16 0; under = get_or o 17 0 } })
+    o
 
-abbrev pub wrote_from : List ℕ → Wrote
-wrote_from o = answer_from wrote.Refused (wrote.Bytes (get_or o 1 0)) o
+abbrev pub wrote_from : List ℕ → Result ℕ Refused
+wrote_from o = answer_from (get_or o 1 0) o
 
-abbrev pub batch_from : List ℕ → Batch
-batch_from o = answer_from batch.Refused (batch.Done (get_or o 1 0) (get_or o 2 0)) o
+abbrev pub batch_from : List ℕ → Result Batch Refused
+batch_from o = answer_from (record { files = get_or o 1 0; bytes = get_or o 2 0 }) o
 
 -- the promise of each, by what is promised of the function that is linked
 pub record LinkedPromises : Type 0 where
@@ -115,8 +134,8 @@ pub record ToldRefusal (numbers : List ℕ) (r : Refusal) (out2 : List ℕ) (Kep
 
 -- the answer of an entry for arguments of which the table says `table`: 0 first, where nothing refuses
 pub record Told (numbers : List ℕ) (table : Option Refusal) (out2 : List ℕ) (Kept : Type 0) : Type 0 where
-  pub accepted : table ≡ none → get_or out2 0 0 ≡ 0
-  pub refused : (r : Refusal) → table ≡ some r → ToldRefusal numbers r out2 Kept
+  pub accepted : table ≡ None → get_or out2 0 0 ≡ 0
+  pub refused : (r : Refusal) → table ≡ Some r → ToldRefusal numbers r out2 Kept
 
 pub record Linked1 : Type 0 where
   pub check : (s b out out2 : List ℕ) → length out ≡ 4
@@ -187,7 +206,7 @@ pub record Holder : Type 0 where
 -- "Fresh is all 0"
 abbrev pub fresh_holder : List ℕ → List ℕ → Holder
 fresh_holder store₀ marks₀ =
-    record { store = store₀; marks = marks₀; layout_state_of = fresh_layout_numbers; render_state_of = fresh_render_numbers; text = []; left = none }
+    record { store = store₀; marks = marks₀; layout_state_of = fresh_layout_numbers; render_state_of = fresh_render_numbers; text = []; left = None }
 
 -- a call that was made: its arguments, and the buffers at exit, the answer's array last
 pub data LinkedCall : Type 0 where
@@ -207,7 +226,7 @@ after_linked w (laid args out store2 out2) = record {
   layout_state_of = if_accepted out2 (take 8 (drop 2 out2)) w.layout_state_of;
   render_state_of = w.render_state_of;
   text = w.text;
-  left = if_accepted out2 (some (get_or out2 1 0)) w.left;
+  left = if_accepted out2 (Some (get_or out2 1 0)) w.left;
 }
 after_linked w (rendered args output out store2 marks2 output2 out2) = record {
   store = store2;

@@ -1,8 +1,7 @@
 -- The text holds every comment, and it is the program that was read: of what each entry writes, by what it promises and nothing else. proofs/Text.antt proves it.
 -- What is said of a text: `HoldsFirst`, `IsProgram` and `TextKept` (crates/whole_run/specs/Text.antt); what a program is written of: `tokens_of`
 -- (crates/layout_facts/specs/Tokens.antt).
-use Rattle.std.specs.Prelude.{◌≡◌, true, List, [], ◌∷◌, ◌++◌, map, ℕ, ◌*◌, ◌-◌, length, get_or, take}
-use Rattle.std.proofs.Math.Option.{none}
+use Rattle.std.specs.Prelude.{◌≡◌, true, List, [], ◌∷◌, ◌++◌, map, ℕ, ◌*◌, ◌-◌, length, get_or, take, None, Ok}
 use Rattle.rows.specs.declared.units.Bytes.{Bytes}
 use Rattle.refusals.specs.Refusals.{Refusal}
 use Rattle.refusals.specs.Answers.{refused}
@@ -14,12 +13,10 @@ use Rattle.whole_run.specs.Parts.{listed}
 use Rattle.whole_run.specs.Demands.{rules_of}
 use Rattle.whole_run.specs.Text.{HoldsFirst, IsProgram, AllRendered, TextKept}
 use Rattle.whole_run.specs.Built.{FileChoice, reference_choice, built}
-use Rattle.file.specs.declared.Formatted.TheVariants as answer
 use Rattle.file.specs.Whole.{Formats, to_choice, source_of, image_of}
 use Rattle.file.specs.Reply.{program_refusal, Replies}
 use Rattle.batch.specs.Batch.{Save, all_saves, saves_by, single}
 use Rattle.batch.specs.Whole.{Batches}
-use Rattle.batch.specs.declared.Batch.TheVariants as batch
 use Rattle.exports.specs.Numbers.{file_choice}
 use Rattle.exports.specs.Calls.{FormatsFile}
 use Rattle.exports.specs.Saves.{FormatsBatch}
@@ -31,21 +28,21 @@ use Rattle.demands.specs.Linked.{fresh_holder, LinkedCall, LinkedPromised, after
 abbrev pub FileIsTheProgram : Type 0
 FileIsTheProgram =
     (s b : List ℕ) (c : FileChoice) (out : List ℕ) (n : Bytes) (left rows numbers : ℕ) (out2 : List ℕ)
-    → Formats s b c out (answer.Text n left rows numbers) out2
+    → Formats s b c out (Ok (record { bytes = n; left = left; rows = rows; numbers = numbers })) out2
     → IsProgram s b (length (listed s b) - left) (take n.0 out2)
 
 -- so they hold these comments
 abbrev pub FileHolds : Type 0
 FileHolds =
     (s b : List ℕ) (c : FileChoice) (out : List ℕ) (n : Bytes) (left rows numbers : ℕ) (out2 : List ℕ)
-    → Formats s b c out (answer.Text n left rows numbers) out2
+    → Formats s b c out (Ok (record { bytes = n; left = left; rows = rows; numbers = numbers })) out2
     → HoldsFirst s b (length (listed s b) - left) (take n.0 out2)
 
 -- in the new mode all of the list
 abbrev pub NewModeFileHoldsAll : Type 0
 NewModeFileHoldsAll =
     (s b : List ℕ) (c : FileChoice) (out : List ℕ) (n : Bytes) (left rows numbers : ℕ) (out2 : List ℕ) → c.mode ≡ NEW_MODE
-    → Formats s b c out (answer.Text n left rows numbers) out2
+    → Formats s b c out (Ok (record { bytes = n; left = left; rows = rows; numbers = numbers })) out2
     → IsProgram s b (length (listed s b)) (take n.0 out2)
 
 -- `rrufthim_format`, which other languages link: 0, the bytes written and the comments left are the first three numbers of its answer
@@ -57,7 +54,7 @@ LinkedFileIsTheProgram =
 -- the program `rotofmt`, for a frame that is not refused: the bytes that it writes
 abbrev pub ReplyIsTheProgram : Type 0
 ReplyIsTheProgram =
-    (frame out : List ℕ) (n : ℕ) (out2 : List ℕ) → Replies frame out n out2 → program_refusal frame ≡ none
+    (frame out : List ℕ) (n : ℕ) (out2 : List ℕ) → Replies frame out n out2 → program_refusal frame ≡ None
     → IsProgram (source_of frame) (image_of frame) (built (source_of frame) (image_of frame) reference_choice).placed (take n out2)
 
 -- ---- lists of calls
@@ -105,7 +102,7 @@ pub data EachKept (c : FileChoice) : List Save → List ℕ → List ℕ → Typ
 abbrev pub BatchIsThePrograms : Type 0
 BatchIsThePrograms =
     (f : List ℕ) (c : FileChoice) (table out : List ℕ) (files bytes : ℕ) (table2 out2 : List ℕ)
-    → Batches f c table out (batch.Done files bytes) table2 out2
+    → Batches f c table out (Ok (record { files = files; bytes = bytes })) table2 out2
     → EachKept c (saves_by (all_saves f)) (take (3 * files) table2) (take bytes out2)
 
 -- `rrufthim_batch`: 0, the files and the bytes are the numbers of its answer

@@ -1,4 +1,5 @@
 pub mod Numbers
+pub mod Given
 pub mod Calls
 pub mod Generator
 pub mod Saves

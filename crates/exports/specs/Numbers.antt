@@ -1,6 +1,7 @@
 -- The numbers that the exported functions take and leave, in arrays of as many places as an answer or a state has. An answer begins with a
 -- refusal's number and place, or with 0 and what is told below of what is given (`numbers_of`).
 use Rattle.std.specs.Prelude.{ℕ, ◌+◌, Bool, cond, not, List, [], ◌∷◌, eqb, get_or}
+use Rattle.refusals.specs.Answers.{Answer, refused, accepted}
 use Rattle.text.specs.declared.newlines.Newlines.{Newlines}
 use Rattle.image.specs.declared.Document.{Document}
 use Rattle.cut_rule.specs.Run.{CallResult, laid_out, written}
@@ -60,6 +61,11 @@ abbrev pub file_choice : List ℕ → FileChoice
 file_choice l = record { width = record { 0 = get_or l 0 0 }; mode = get_or l 1 0 }
 
 -- ---- answers
+-- an answer with the numbers that it tells
+abbrev pub told_in : {A : Type 0} → (A → List ℕ) → Answer A → Answer (List ℕ)
+told_in given (refused r) = refused r
+told_in given (accepted a) = accepted (given a)
+
 -- the number of comments, the tree's offset, and the number of declarations
 abbrev pub told_document : ℕ → Document → List ℕ
 told_document declarations d = d.comments ∷ d.tree ∷ declarations ∷ []

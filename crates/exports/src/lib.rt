@@ -3,47 +3,50 @@
 // is linked.
 #![tactic(auto)]
 
-mod count;
 pub mod generator;
 mod numbers;
 pub mod saves;
 
-ghost use Rattle.std.specs.Prelude.{◌≡◌};
+ghost use Rattle.std.specs.Prelude.{◌≡◌, [], ◌∷◌, length};
 ghost use Rattle.std.proofs.lemmas.List.Edits.{sets};
+ghost use Rattle.refusals.specs.Reasons.{answer_of};
 ghost use Rattle.text.specs.Newlines.{count_newlines};
-ghost use Rattle.exports.specs.Numbers.{told_newlines};
+ghost use Rattle.image.specs.Read.{read_all, outcome};
+ghost use Rattle.whole_run.specs.Built.{declared};
+ghost use Rattle.exports.specs.Numbers.{told_newlines, told_in, told_document};
 ghost use Rattle.exports.specs.Calls.{ChecksFile, CountsFile, Lays, Renders, FormatsFile};
 
-use crate::count::{put_counted, tallies_from};
 use crate::numbers::{
-    file_choice, layout_args, layout_state, put_formatted, put_laid, put_written, render_args,
-    render_state,
+    counted_numbers, file_choice, laid_numbers, layout_args, layout_state, put_answer, render_args,
+    render_state, tallies_from, text_numbers, written_numbers,
 };
-use figures::{Counted, count_file};
-use file::{Formatted, format_file};
-use image::Answer;
+use figures::count_file;
+use file::format_file;
+use layout_call::accepted::Accepted;
+use layout_call::layout_call;
 use layout_call::steps::count_declarations;
-use layout_call::{Laying, layout_call};
-use render_call::{Rendering, render_call};
+use refusals::Refused;
+use render_call::render_call;
 use text::newlines::count_newlines;
+
+// The number of comments, the tree's offset and the number of declarations of a source and an image that are accepted.
+fn document_numbers(source: &[u8], image: &[u8]) -> Result<[u64; 3], Refused>
+    ensures { answer_of (λ l. l) result ≡ told_in (told_document (length (declared source.now image.now))) (outcome (read_all source.now image.now)) }
+{
+    let file = Accepted::check(source, image)?;
+    Ok([
+        file.doc.comments as u64,
+        file.doc.tree as u64,
+        count_declarations(file) as u64,
+    ])
+}
 
 // Whether a source and an image are accepted. `out` gets the refusal's number and place, or 0, the number of comments, the tree's offset and
 // the number of declarations.
 pub fn rrufthim_check_s1(source: &[u8], image: &[u8], out: &mut [u64; 4])
     ensures { ChecksFile source.now image.now out.old out.new }
 {
-    match image::check(source, image) {
-        Answer::Refused(n, p) => {
-            out[0] = n as u64;
-            out[1] = p as u64;
-        }
-        Answer::Accepted(doc) => {
-            out[0] = 0;
-            out[1] = doc.comments as u64;
-            out[2] = doc.tree as u64;
-            out[3] = count_declarations(source, image, doc) as u64;
-        }
-    }
+    put_answer(out, document_numbers(source, image));
 }
 
 // A layout call. The state: begun, closed, next declaration, next row, next number, comments placed, position, mode. The arguments: the
@@ -59,15 +62,8 @@ pub fn rrufthim_layout_s1(
 )
     ensures { Lays source.now image.now store.old state.now args.now out.old store.new out.new }
 {
-    let from = layout_state(state);
-    let to = layout_args(args);
-    match layout_call(source, image, store, from, to) {
-        Laying::Refused(n, p) => {
-            out[0] = n as u64;
-            out[1] = p as u64;
-        }
-        Laying::Laid(t, left) => put_laid(out, t, left),
-    }
+    let laid = layout_call(source, image, store, layout_state(state), layout_args(args));
+    put_answer(out, laid.map(laid_numbers));
 }
 
 // A rendering call. The state: indent, next indent, column, marks in use, next row, width. The arguments: the row to stop before, and the
@@ -86,13 +82,8 @@ pub fn rrufthim_render_s1(
 {
     let from = render_state(state);
     let to = render_args(args);
-    match render_call(source, image, store, marks, output, from, to) {
-        Rendering::Refused(n, p) => {
-            out[0] = n as u64;
-            out[1] = p as u64;
-        }
-        Rendering::Written(t, bytes) => put_written(out, t, bytes),
-    }
+    let written = render_call(source, image, store, marks, output, from, to);
+    put_answer(out, written.map(written_numbers));
 }
 
 // The run of one file: all is laid out and rendered, in rows and marks of its own. The choice: the width and the mode. `out` gets the refusal's
@@ -106,18 +97,8 @@ pub fn rrufthim_format_s1(
 )
     ensures { FormatsFile source.now image.now choice.now output.old out.old output.new out.new }
 {
-    match format_file(source, image, output, file_choice(choice)) {
-        Formatted::Refused(n, p) => {
-            out[0] = n as u64;
-            out[1] = p as u64;
-        }
-        Formatted::Text {
-            bytes,
-            left,
-            rows,
-            numbers,
-        } => put_formatted(out, bytes, left, rows, numbers),
-    }
+    let text = format_file(source, image, output, file_choice(choice));
+    put_answer(out, text.map(text_numbers));
 }
 
 // The newlines of a range of the source, UTF-8 or not. `out` gets how many there are and the place of the last, or the range's end if there is
@@ -126,8 +107,7 @@ pub fn rrufthim_newlines_s1(source: &[u8], start: u64, end: u64, out: &mut [u64;
     ensures { out.new ≡ sets out.old 0 (told_newlines (count_newlines source.now start end)) }
 {
     let found = count_newlines(source, start as usize, end as usize);
-    out[0] = found.count as u64;
-    out[1] = found.place as u64;
+    *out = [found.count as u64, found.place as u64];
 }
 
 // Counts a file with those before it: its figures, the new tallies, and wrapped over given. The tallies: how many files, then bytes, newlines,
@@ -136,11 +116,6 @@ pub fn rrufthim_newlines_s1(source: &[u8], start: u64, end: u64, out: &mut [u64;
 pub fn rrufthim_count_s1(source: &[u8], image: &[u8], tallies: &[u64; 8], out: &mut [u64; 18])
     ensures { CountsFile source.now image.now tallies.now out.old out.new }
 {
-    match count_file(source, image, tallies_from(tallies)) {
-        Counted::Refused(n, p) => {
-            out[0] = n as u64;
-            out[1] = p as u64;
-        }
-        Counted::File(f, t, q) => put_counted(out, f, t, q),
-    }
+    let counted = count_file(source, image, tallies_from(tallies));
+    put_answer(out, counted.map(counted_numbers));
 }

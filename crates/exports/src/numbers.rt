@@ -1,35 +1,26 @@
 // Numbers in and out of the arrays that the exported functions are lent.
-ghost use Rattle.std.specs.Prelude.{◌≡◌, [], ◌∷◌};
-ghost use Rattle.std.proofs.lemmas.List.Edits.{sets};
-ghost use Rattle.exports.specs.Numbers.{flag as flag_of, bit as bit_of, layout_state, layout_args, render_state, render_args, file_choice};
+ghost use Rattle.std.specs.Prelude.{◌≡◌, ◌<◌, [], ◌∷◌, length};
+ghost use Rattle.refusals.specs.Answers.{numbers_of};
+ghost use Rattle.refusals.specs.Reasons.{answer_of};
+ghost use Rattle.exports.specs.Numbers.{layout_state, layout_args, render_state, render_args, file_choice, tallies_from};
+ghost use Rattle.exports.specs.Given.{laid_numbers, written_numbers, text_numbers, counted_numbers, batch_numbers};
 
-use file::FileChoice;
-use layout_call::{LayoutArgs, LayoutState};
-use render_call::{RenderArgs, RenderState};
-use rows::units::{Bytes, Columns};
+use batch::Batch;
+use figures::Counted;
+use file::{FileChoice, Text};
+use layout_call::{Laid, LayoutArgs, LayoutState};
+use refusals::Refused;
+use render_call::{RenderArgs, RenderState, Written};
+use rows::units::Columns;
+use tallies::{Figures, Tallies};
 
 // A flag is yes for every number but 0.
-fn flag(x: u64) -> bool
-    ensures { result ≡ flag_of x }
-{
-    x != 0
-}
-
-fn bit(x: bool) -> u64
-    ensures { result ≡ bit_of x }
-{
-    if x {
-        return 1;
-    }
-    0
-}
-
 pub(crate) fn layout_state(from: &[u64; 8]) -> LayoutState
     ensures { result ≡ layout_state from.now }
 {
     LayoutState {
-        begun: flag(from[0]),
-        closed: flag(from[1]),
+        begun: from[0] != 0,
+        closed: from[1] != 0,
         declaration: from[2] as usize,
         row: from[3] as usize,
         number: from[4] as usize,
@@ -44,7 +35,7 @@ pub(crate) fn layout_args(from: &[u64; 3]) -> LayoutArgs
 {
     LayoutArgs {
         stop: from[0] as usize,
-        close: flag(from[1]),
+        close: from[1] != 0,
         mode: from[2] as usize,
     }
 }
@@ -80,49 +71,125 @@ pub(crate) fn file_choice(from: &[u64; 2]) -> FileChoice
     }
 }
 
-// What a layout call that is accepted tells.
-pub(crate) fn put_laid(out: &mut [u64; 10], t: LayoutState, left: usize)
-    ensures { out.new ≡ sets out.old 0 (0 ∷ left ∷ bit_of t.begun ∷ bit_of t.closed ∷ t.declaration ∷ t.row ∷ t.number ∷ t.placed ∷ t.position ∷ t.mode ∷ []) }
+// Tallies: how many files, then their figures together.
+pub(crate) fn tallies_from(l: &[u64; 8]) -> Tallies
+    ensures { result ≡ tallies_from l.now }
 {
-    out[0] = 0;
-    out[1] = left as u64;
-    out[2] = bit(t.begun);
-    out[3] = bit(t.closed);
-    out[4] = t.declaration as u64;
-    out[5] = t.row as u64;
-    out[6] = t.number as u64;
-    out[7] = t.placed as u64;
-    out[8] = t.position as u64;
-    out[9] = t.mode as u64;
+    Tallies {
+        files: l[0] as usize,
+        all: Figures {
+            bytes: l[1] as usize,
+            newlines: l[2] as usize,
+            column: l[3] as usize,
+            given: l[4] as usize,
+            wrapped: l[5] as usize,
+            placed: l[6] as usize,
+            left: l[7] as usize,
+        },
+    }
+}
+
+// Puts an answer at the start of an array: the refusal's number and place, or 0 and the numbers of what is given.
+pub(crate) fn put_answer<const N: usize>(out: &mut [u64], answer: Result<[u64; N], Refused>)
+    requires refused { 1 < length out.old }
+    requires given { N < length out.old }
+    ensures { out.new ≡ numbers_of (λ l. l) (answer_of (λ l. l) answer.entry) out.old }
+{
+    match answer {
+        Ok(given) => {
+            out[0] = 0;
+            out[1..=N].copy_from_slice(&given);
+        }
+        Err(refused) => {
+            out[0] = u64::from(refused.number());
+            out[1] = refused.place as u64;
+        }
+    }
+}
+
+// What a layout call that is accepted tells.
+pub(crate) fn laid_numbers(laid: Laid) -> [u64; 9]
+    ensures { result ≡ laid_numbers laid }
+{
+    let state = laid.state;
+    [
+        laid.left as u64,
+        u64::from(state.begun),
+        u64::from(state.closed),
+        state.declaration as u64,
+        state.row as u64,
+        state.number as u64,
+        state.placed as u64,
+        state.position as u64,
+        state.mode as u64,
+    ]
 }
 
 // What a rendering call that is accepted tells.
-pub(crate) fn put_written(out: &mut [u64; 8], t: RenderState, bytes: Bytes)
-    ensures { out.new ≡ sets out.old 0 (0 ∷ bytes.0 ∷ t.indent ∷ t.next_indent ∷ t.column.0 ∷ t.in_use ∷ t.row ∷ t.width.0 ∷ []) }
+pub(crate) fn written_numbers(written: Written) -> [u64; 7]
+    ensures { result ≡ written_numbers written }
 {
-    out[0] = 0;
-    out[1] = bytes.0 as u64;
-    out[2] = t.indent as u64;
-    out[3] = t.next_indent as u64;
-    out[4] = t.column.0 as u64;
-    out[5] = t.in_use as u64;
-    out[6] = t.row as u64;
-    out[7] = t.width.0 as u64;
+    let state = written.state;
+    [
+        written.bytes.0 as u64,
+        state.indent as u64,
+        state.next_indent as u64,
+        state.column.0 as u64,
+        state.in_use as u64,
+        state.row as u64,
+        state.width.0 as u64,
+    ]
 }
 
 // What the run of a file that is accepted tells.
-pub(crate) fn put_formatted(
-    out: &mut [u64; 5],
-    bytes: Bytes,
-    left: usize,
-    rows: usize,
-    numbers: usize,
-)
-    ensures { out.new ≡ sets out.old 0 (0 ∷ bytes.0 ∷ left ∷ rows ∷ numbers ∷ []) }
+pub(crate) fn text_numbers(text: Text) -> [u64; 4]
+    ensures { result ≡ text_numbers text }
 {
-    out[0] = 0;
-    out[1] = bytes.0 as u64;
-    out[2] = left as u64;
-    out[3] = rows as u64;
-    out[4] = numbers as u64;
+    [
+        text.bytes.0 as u64,
+        text.left as u64,
+        text.rows as u64,
+        text.numbers as u64,
+    ]
+}
+
+// What the writer of images and the steps of an image tell.
+pub(crate) fn bytes_numbers(bytes: usize) -> [u64; 1]
+    ensures { result ≡ bytes ∷ [] }
+{
+    [bytes as u64]
+}
+
+// What a batch tells.
+pub(crate) fn batch_numbers(batch: Batch) -> [u64; 2]
+    ensures { result ≡ batch_numbers batch }
+{
+    [batch.files as u64, batch.bytes as u64]
+}
+
+// What a file that is counted tells.
+pub(crate) fn counted_numbers(counted: Counted) -> [u64; 17]
+    ensures { result ≡ counted_numbers counted }
+{
+    let f = counted.figures;
+    let all = counted.tallies.all;
+    [
+        f.bytes as u64,
+        f.newlines as u64,
+        f.column as u64,
+        f.given as u64,
+        f.wrapped as u64,
+        f.placed as u64,
+        f.left as u64,
+        counted.tallies.files as u64,
+        all.bytes as u64,
+        all.newlines as u64,
+        all.column as u64,
+        all.given as u64,
+        all.wrapped as u64,
+        all.placed as u64,
+        all.left as u64,
+        counted.wrapped.over as u64,
+        counted.wrapped.under as u64,
+    ]
 }

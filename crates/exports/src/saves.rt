@@ -1,8 +1,8 @@
 // Request 7: a night's saves in one call.
 ghost use Rattle.exports.specs.Saves.{FormatsBatch};
 
-use crate::numbers::file_choice;
-use batch::{Batch, format_batch};
+use crate::numbers::{batch_numbers, file_choice, put_answer};
+use batch::format_batch;
 
 // Formats the files of a buffer of frames: the table gets three numbers a file, the output the texts in a row. The choice: the width and the
 // mode. `out` gets the refusal's number and place, or 0, the number of files and the bytes of their texts.
@@ -15,15 +15,6 @@ pub fn rrufthim_batch_s1(
 )
     ensures { FormatsBatch frames.now choice.now table.old output.old out.old table.new output.new out.new }
 {
-    match format_batch(frames, table, output, file_choice(choice)) {
-        Batch::Refused(n, p) => {
-            out[0] = n as u64;
-            out[1] = p as u64;
-        }
-        Batch::Done { files, bytes } => {
-            out[0] = 0;
-            out[1] = files as u64;
-            out[2] = bytes as u64;
-        }
-    }
+    let batch = format_batch(frames, table, output, file_choice(choice));
+    put_answer(out, batch.map(batch_numbers));
 }

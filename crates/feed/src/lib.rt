@@ -1,8 +1,8 @@
 // The files of an input, one after another: two lengths of four bytes, of source and image; the source; the image.
 #![tactic(auto)]
 
-ghost use Rattle.std.specs.Prelude.{◌≡◌, ◌≤◌, ◌<◌, min, length};
-ghost use Rattle.feed.specs.Input.{LENGTHS as INPUT_LENGTHS, source_length, image_length, Arrives, came_of, ReadsFile};
+ghost use Rattle.std.specs.Prelude.{◌≡◌, ◌+◌, ◌<◌, ◌^◌, min, length};
+ghost use Rattle.feed.specs.Input.{source_length, image_length, came, after, Arrives, ReadsFile};
 
 use image::bytes::num32;
 use image::limits::{MAX_BODY, MAX_SOURCE};
@@ -29,152 +29,92 @@ const IMAGE_LENGTH: usize = 4;
 // How much is read at once of what is passed over.
 const PIECE: usize = 65536;
 
-// What came of a file: no byte; some, up to the input's end; all of it.
-#[derive(Clone, Copy)]
-pub enum Came {
-    Nothing,
-    Cut,
-    Whole,
-}
-
-// How many of the bytes asked for came, and whether the input ended before the last of them.
-#[derive(Clone, Copy)]
-struct Arrived {
-    bytes: usize,
-    ended: bool,
-}
-
-// What came of the next file, and how many bytes of it.
-#[derive(Clone, Copy)]
-pub struct Read {
-    pub came: Came,
+// The input ended inside what was asked for; so many bytes of it came.
+#[derive(Clone, Copy, Debug, PartialEq, Eq)]
+pub struct Cut {
     pub bytes: usize,
 }
 
-fn least(a: usize, b: usize) -> usize
-    ensures { result ≡ min a b }
+// What came of a part, together with the bytes before it.
+fn after(before: usize, part: Result<usize, Cut>) -> Result<usize, Cut>
+    requires { before + came part < 2 ^ 64 }
+    ensures { result ≡ after before part }
 {
-    if a < b {
-        return a;
+    match part {
+        Ok(bytes) => Ok(before + bytes),
+        Err(cut) => Err(Cut {
+            bytes: before + cut.bytes,
+        }),
     }
-    b
 }
 
-// Reads bytes to the front of a buffer.
-fn read_front<R: io::Read>(input: &mut R, b: &mut [u8], n: usize) -> Arrived
-    requires { n ≤ length b.old }
-    ensures { Arrives n result }
+// Reads bytes to a buffer, until it is full.
+fn read_front<R: io::Read>(input: &mut R, b: &mut [u8]) -> Result<usize, Cut>
+    ensures { Arrives (length b.old) result }
 {
-    let bytes = read_full(input, &mut b[..n]);
-    Arrived {
-        bytes: bytes,
-        ended: bytes < n,
+    let bytes = read_full(input, b);
+    if bytes < b.len() {
+        return Err(Cut { bytes });
     }
+    Ok(bytes)
 }
 
 // Reads bytes that are not kept.
-fn pass_over<R: io::Read>(input: &mut R, n: usize) -> Arrived
+fn pass_over<R: io::Read>(input: &mut R, n: usize) -> Result<usize, Cut>
     ensures { Arrives n result }
 {
     let mut piece = [0u8; PIECE];
-    let mut left = n;
-    while 0 < left {
-        let some = least(left, PIECE);
-        let came = read_front(input, &mut piece, some);
-        left -= came.bytes;
-        if came.ended {
-            let passed = n - left;
-            return Arrived {
-                bytes: passed,
-                ended: true,
-            };
-        }
+    let mut passed = 0;
+    while passed < n {
+        let some = (n - passed).min(PIECE);
+        passed = after(passed, read_front(input, &mut piece[..some]))?;
     }
-    Arrived {
-        bytes: n,
-        ended: false,
-    }
+    Ok(passed)
 }
 
 // Reads a part of a file: keeps as much as there is room for, and passes over the rest.
-fn read_part<R: io::Read>(input: &mut R, room: &mut [u8], n: usize) -> Arrived
+fn read_part<R: io::Read>(input: &mut R, room: &mut [u8], n: usize) -> Result<usize, Cut>
     ensures { Arrives n result }
 {
-    let kept = least(n, room.len());
-    let front = read_front(input, room, kept);
-    if front.ended {
-        return front;
-    }
-    let behind = n - kept;
-    let rest = pass_over(input, behind);
-    let bytes = kept + rest.bytes;
-    Arrived {
-        bytes: bytes,
-        ended: rest.ended,
-    }
+    let kept = n.min(room.len());
+    let front = read_front(input, &mut room[..kept])?;
+    after(front, pass_over(input, n - kept))
 }
 
-// What came of a file whose lengths didn't come whole.
-fn without_lengths(bytes: usize) -> Read
-    requires { bytes < INPUT_LENGTHS }
-    ensures { (result.bytes ≡ bytes) × (result.came ≡ came_of INPUT_LENGTHS bytes) }
-{
-    if bytes == 0 {
-        return Read {
-            came: Came::Nothing,
-            bytes: 0,
-        };
-    }
-    Read {
-        came: Came::Cut,
-        bytes: bytes,
-    }
-}
-
-// Reads the next file into buffers, as much of it as they keep.
+// Reads the next file into buffers, as much of it as they keep, and answers how many bytes it has; none where the input has no further byte.
 pub fn read_file<R: io::Read>(
     input: &mut R,
     lengths: &mut [u8; LENGTHS],
     source: &mut [u8],
     image: &mut [u8],
-) -> Read
+) -> Result<Option<usize>, Cut>
     ensures { ReadsFile lengths.new result }
 {
-    let head = read_front(input, lengths, LENGTHS);
-    if head.ended {
-        return without_lengths(head.bytes);
-    }
-    let s = read_part(input, source, num32(lengths, SOURCE_LENGTH));
-    let before = LENGTHS + s.bytes;
-    if s.ended {
-        return Read {
-            came: Came::Cut,
-            bytes: before,
-        };
-    }
-    let i = read_part(input, image, num32(lengths, IMAGE_LENGTH));
-    let bytes = before + i.bytes;
-    if i.ended {
-        return Read {
-            came: Came::Cut,
-            bytes: bytes,
-        };
-    }
-    Read {
-        came: Came::Whole,
-        bytes: bytes,
-    }
+    let head = match read_front(input, lengths) {
+        Ok(bytes) => bytes,
+        Err(cut) if cut.bytes == 0 => return Ok(None),
+        Err(cut) => return Err(cut),
+    };
+    let before = after(
+        head,
+        read_part(input, source, num32(lengths, SOURCE_LENGTH)),
+    )?;
+    let all = after(
+        before,
+        read_part(input, image, num32(lengths, IMAGE_LENGTH)),
+    )?;
+    Ok(Some(all))
 }
 
 // How many bytes of a source, and of an image, a buffer with room keeps.
 pub fn source_kept(lengths: &[u8; LENGTHS], room: usize) -> usize
     ensures { result ≡ min (source_length lengths.now) room }
 {
-    least(num32(lengths, SOURCE_LENGTH), room)
+    num32(lengths, SOURCE_LENGTH).min(room)
 }
 
 pub fn image_kept(lengths: &[u8; LENGTHS], room: usize) -> usize
     ensures { result ≡ min (image_length lengths.now) room }
 {
-    least(num32(lengths, IMAGE_LENGTH), room)
+    num32(lengths, IMAGE_LENGTH).min(room)
 }

@@ -2,7 +2,7 @@
 -- Assumes nothing.
 use mathlib.Core.Path.{◌≡◌, ◌∙◌}
 use mathlib.Core.Bool.{true}
-use mathlib.Core.Option.{none}
+use Rattle.std.specs.Prelude.{None}
 use mathlib.Core.List.{List}
 use Prim.Native.Nat.{ℕ, ◌≤◌}
 use native.Mathlib.Omega.{arith}
@@ -35,8 +35,8 @@ module _ (s b : List ℕ) where
   text_due_lem = length (drawn_due s b reference_choice).text
 
   -- ---- what 9 and 10 let pass
-  module _ (passes : file_refusal s b reference_choice FILE_OUTPUT ≡ none) where
-    laid_passes : laid_refusal s b reference_choice file_rows ≡ none
+  module _ (passes : file_refusal s b reference_choice FILE_OUTPUT ≡ None) where
+    laid_passes : laid_refusal s b reference_choice file_rows ≡ None
     laid_passes = before_marks_lem s b reference_choice file_rows file_marks FILE_OUTPUT passes
 
     marks_enough : marks_due s b reference_choice ≤ file_marks
@@ -60,7 +60,7 @@ module _ (s b : List ℕ) where
     pub placed_in : (built s b reference_choice).placed ≤ length (comments_of b)
     placed_in = laid.placed
 
-    module _ (passes : file_refusal s b reference_choice FILE_OUTPUT ≡ none) where
+    module _ (passes : file_refusal s b reference_choice FILE_OUTPUT ≡ None) where
       pub within : Within (figures_of s b)
       within =
           let t = text_fits passes in
@@ -109,7 +109,7 @@ module _ (s b : List ℕ) where
             left = omega arith;
           }
 
-  pub small : AreBytes b → file_refusal s b reference_choice FILE_OUTPUT ≡ none → Small (figures_of s b)
+  pub small : AreBytes b → file_refusal s b reference_choice FILE_OUTPUT ≡ None → Small (figures_of s b)
   small bytes passes =
       let a = stood s b (laid_passed s b reference_choice file_rows (laid_passes passes)).read in
       small_in a.at a.stood passes bytes

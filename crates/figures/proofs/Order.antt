@@ -1,7 +1,7 @@
 -- The totals over files are the sums over those counted, and so the same in any order: tallies/proofs/Order.antt has it of files of any kind.
 -- Assumes nothing.
 use mathlib.Core.Path.{◌≡◌, refl, sym, ap, ◌∙◌}
-use mathlib.Core.Option.{Option, none, some}
+use Rattle.std.specs.Prelude.{Option, None, Some}
 use mathlib.Core.List.{List, [], ◌∷◌, map}
 use Rattle.refusals.specs.Refusals.{Refusal, unless}
 use Rattle.refusals.specs.Answers.{answer_by}
@@ -18,8 +18,8 @@ use Rattle.figures.proofs.Bounds.{small}
 
 -- ---- one file, by what is promised of it
 held : (o : Option Refusal) (f : Figures) (t : Tallies) → tallies_after t (answer_by o (count_result f t)) ≡ unless o t (added f t)
-held (some r) f t = refl
-held none f t = refl
+held (Some r) f t = refl
+held None f t = refl
 
 pub one_more : (t : Tallies) (x : File) → tallies_after t (count_answer x.source x.image t) ≡ counted_on refusal_of figures_in t x
 one_more t x = held (refused_on refusal_of figures_in t x) (figures_in x) t
@@ -36,8 +36,8 @@ kept_totals (m ∷ ms) t k =
 small_file : (x : File) (o : Option Refusal) → refusal_of x ≡ o → (xs : List File) → AllSmall (map figures_in xs)
     → AllSmall (map figures_in (unless o xs (x ∷ xs)))
 unfolding AllSmall
-small_file x (some r) e xs h = h
-small_file x none e xs h = (small x.source x.image x.bytes e, h)
+small_file x (Some r) e xs h = h
+small_file x None e xs h = (small x.source x.image x.bytes e, h)
 
 all_small : (xs : List File) → AllSmall (map figures_in (accepted_files xs))
 unfolding accepted AllSmall

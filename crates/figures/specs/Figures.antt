@@ -1,9 +1,10 @@
 -- Document 02, 2/14: the figures of one file, and what counting it answers.
-use Rattle.std.specs.Prelude.{◌≡◌, cond, List, [], ◌∷◌, ℕ, suc, ◌-◌, eqb, length}
-use Rattle.std.proofs.Math.Option.{Option}
+use Rattle.std.specs.Prelude.{◌≡◌, ◌==◌, List, [], ◌∷◌, ℕ, ◌-◌, count_by, length, Option, Result}
 use Rattle.tree.specs.CommentList.{comments_of}
 use Rattle.refusals.specs.Refusals.{Refusal, first}
-use Rattle.refusals.specs.Answers.{Answer, refused, accepted, answer_by}
+use Rattle.refusals.specs.Answers.{Answer, answer_by}
+use Rattle.refusals.specs.Reasons.{answer_of}
+use Rattle.refusals.specs.declared.Refused.{Refused}
 use Rattle.whole_run.specs.Built.{reference_choice, built, drawn_due, column_due}
 use Rattle.whole_run.specs.File.{file_refusal}
 use Rattle.tallies.specs.declared.Figures.{Figures}
@@ -12,16 +13,14 @@ use Rattle.tallies.specs.declared.Fraction.{Fraction}
 use Rattle.tallies.specs.Tallies.{added, tally_refusal}
 use Rattle.tallies.specs.Fraction.{reduced}
 use Rattle.figures.specs.declared.Counted.{Counted}
-use Rattle.figures.specs.declared.Counted.TheVariants as answer
 
 -- "each with the program's rows, marks and output": "It has 1,800 rows, 1,800 marks and 65,536 output bytes."
 abbrev pub FILE_OUTPUT : ℕ
 FILE_OUTPUT = 65536
 
 -- how often a byte stands in a text, or a mark among marks
-unfoldable pub occurs : ℕ → List ℕ → ℕ
-occurs x [] = 0
-occurs x (y ∷ ys) = cond (eqb x y) (suc (occurs x ys)) (occurs x ys)
+abbrev pub occurs : ℕ → List ℕ → ℕ
+occurs x ys = count_by (λ y. y == x) ys
 
 -- "text bytes, newlines, greatest value `column` takes, group numbers given, groups wrapped (marks at 1), comments placed, comments left", by
 -- what `fmt_parsed` builds, the mode being the old one, and `Renderer` makes of it
@@ -52,11 +51,10 @@ count_result f t = record { figures = f; tallies = added f t; fraction = reduced
 abbrev pub count_answer : List ℕ → List ℕ → Tallies → Answer CountResult
 count_answer s b t = answer_by (count_refusal s b t) (count_result (figures_of s b) t)
 
--- an answer, case by case
-abbrev pub counted_answer : Counted → Answer CountResult
-counted_answer (answer.File f t q) = accepted (record { figures = f; tallies = t; fraction = q })
-counted_answer (answer.Refused n p) = refused (record { number = n; place = p })
+-- an answer of the code's
+abbrev pub counted_answer : Result Counted Refused → Answer CountResult
+counted_answer = answer_of (λ c. record { figures = c.figures; tallies = c.tallies; fraction = c.wrapped })
 
 -- what `count_file` promises of its answer
-abbrev pub Counts : List ℕ → List ℕ → Tallies → Counted → Type 0
+abbrev pub Counts : List ℕ → List ℕ → Tallies → Result Counted Refused → Type 0
 Counts s b t r = counted_answer r ≡ count_answer s b t

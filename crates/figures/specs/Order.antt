@@ -1,7 +1,6 @@
 -- "totals, the same in any order of the files counted (sums, for `column` the greatest)": of files that are counted one after another by a function
 -- that keeps the promise of `count_file`. tallies/specs/Order.antt has it of files of any kind; proofs/Order.antt proves the claims.
-use Rattle.std.specs.Prelude.{◌≡◌, List, map, ℕ, ◌≤◌, length, take}
-use Rattle.std.proofs.Math.Option.{Option}
+use Rattle.std.specs.Prelude.{◌≡◌, List, map, ℕ, ◌≤◌, length, take, Option, Result}
 use Rattle.refusals.specs.Refusals.{Refusal}
 use Rattle.refusals.specs.Answers.{Answer, refused, accepted}
 use Rattle.cut_rule.specs.Callers.{after_all, AllKept}
@@ -14,6 +13,7 @@ use Rattle.tallies.specs.Tallies.{MAX_FILES, fresh_tallies}
 use Rattle.tallies.specs.Order as tallied
 use Rattle.tallies.specs.Order.{Reordered, sum}
 use Rattle.figures.specs.Figures.{FILE_OUTPUT, figures_of, CountResult, counted_answer, Counts}
+use Rattle.refusals.specs.declared.Refused.{Refused}
 use Rattle.figures.specs.declared.Counted.{Counted}
 
 -- A source and an image of bytes. (The column is bounded because widths stand in two bytes; of the source nothing is asked.)
@@ -44,7 +44,7 @@ sums_of xs = record { files = length xs; all = sum (map figures_in xs) }
 -- a file that was counted or refused, and the answer
 pub record Made : Type 0 where
   pub file : File
-  pub answer : Counted
+  pub answer : Result Counted Refused
 
 -- the tallies that it holds then: the new ones, or where the file was refused, those that it had
 abbrev pub tallies_after : Tallies → Answer CountResult → Tallies

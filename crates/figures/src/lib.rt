@@ -1,19 +1,14 @@
 // Request 2: the figures of one file, counted with those before it.
 #![tactic(auto)]
 
-mod occurrences;
-
 ghost use Rattle.std.specs.Prelude.{◌≡◌, length};
-ghost use Rattle.image.specs.Read.{Accepts};
 ghost use Rattle.tallies.specs.Tallies.{Within, tally_refusal};
 ghost use Rattle.refusals.specs.Answers.{answer_by};
-ghost use Rattle.figures.specs.Figures.{FILE_OUTPUT, count_result, count_answer, counted_answer, Counts};
+ghost use Rattle.figures.specs.Figures.{FILE_OUTPUT, occurs, count_result, count_answer, counted_answer, Counts};
 
-use crate::occurrences::occurrences;
-use file::{FileChoice, FileRun, REFERENCE_WIDTH, marks, rows as no_rows, run_file};
-use image::{Answer, Document, check};
-use layout_call::modes::OLD_MODE;
-use rows::units::Columns;
+use file::{REFERENCE_CHOICE, marks, rows, run_file};
+use layout_call::accepted::Accepted;
+use refusals::{Reason, Refused};
 use tallies::lowest::reduced;
 use tallies::sums::{add, tallies_fit};
 use tallies::{Figures, Fraction, Tallies};
@@ -26,12 +21,19 @@ const NEWLINE: u8 = 0x0A;
 // The mark of a group that wraps.
 const WRAPPED: u8 = 1;
 
-#[derive(Clone, Copy)]
-pub enum Counted {
-    // the file's figures, the new tallies, and wrapped over given of all
-    File(Figures, Tallies, Fraction),
-    // the number and the place
-    Refused(u8, usize),
+/// What a file that is counted gives: its figures, the new tallies, and wrapped over given of all.
+#[derive(Clone, Copy, Debug, PartialEq, Eq)]
+pub struct Counted {
+    pub figures: Figures,
+    pub tallies: Tallies,
+    pub wrapped: Fraction,
+}
+
+// How often a byte stands in bytes.
+fn occurrences(byte: u8, bytes: &[u8]) -> usize
+    ensures { result ≡ occurs byte bytes.now }
+{
+    bytes.iter().filter(|&&b| b == byte).count()
 }
 
 // The bytes of its output.
@@ -42,60 +44,45 @@ fn output() -> [u8; OUTPUT]
 }
 
 // Counts figures with those before, or refuses them with 14.
-fn count_figures(t: Tallies, f: Figures) -> Counted
+fn count_figures(t: Tallies, f: Figures) -> Result<Counted, Refused>
     requires { Within f }
     ensures { counted_answer result ≡ answer_by (tally_refusal t) (count_result f t) }
 {
     if !tallies_fit(t) {
-        return Counted::Refused(14, 0);
+        return Err(Reason::Tallies.at(0));
     }
-    let new = add(t, f);
-    let all = new.all;
-    Counted::File(f, new, reduced(all.wrapped, all.given))
+    let tallies = add(t, f);
+    Ok(Counted {
+        figures: f,
+        tallies,
+        wrapped: reduced(tallies.all.wrapped, tallies.all.given),
+    })
 }
 
 // Counts a file that is accepted. The marks past those that its rows need stay cleared, so that all are looked at.
-fn count_accepted(source: &[u8], image: &[u8], doc: Document, t: Tallies) -> Counted
-    requires { Accepts source.now image.now doc }
-    ensures { counted_answer result ≡ count_answer source.now image.now t }
+fn count_accepted(file: Accepted<'_>, t: Tallies) -> Result<Counted, Refused>
+    ensures { counted_answer result ≡ count_answer file.entry.source.now file.entry.image.now t }
 {
-    let mut store = no_rows();
+    let mut store = rows();
     let mut used = marks();
     let mut out = output();
-    let choice = FileChoice {
-        width: Columns(REFERENCE_WIDTH),
-        mode: OLD_MODE,
+    let run = run_file(file, &mut store, &mut used, &mut out, REFERENCE_CHOICE)?;
+    let size = run.text.bytes.0;
+    let figures = Figures {
+        bytes: size,
+        newlines: occurrences(NEWLINE, &out[..size]),
+        column: run.widest.0,
+        given: run.text.numbers,
+        wrapped: occurrences(WRAPPED, &used),
+        placed: file.doc.comments - run.text.left,
+        left: run.text.left,
     };
-    match run_file(source, image, &mut store, &mut used, &mut out, doc, choice) {
-        FileRun::Stopped(number, place) => Counted::Refused(number, place),
-        FileRun::Text {
-            bytes,
-            left,
-            rows,
-            numbers,
-            widest,
-        } => {
-            let size = bytes.0;
-            let f = Figures {
-                bytes: size,
-                newlines: occurrences(NEWLINE, &out[..size]),
-                column: widest.0,
-                given: numbers,
-                wrapped: occurrences(WRAPPED, &used),
-                placed: doc.comments - left,
-                left: left,
-            };
-            count_figures(t, f)
-        }
-    }
+    count_figures(t, figures)
 }
 
-// Counts a file with those before it, or refuses to: the file by what document 01 refuses, the tallies by 14.
-pub fn count_file(source: &[u8], image: &[u8], t: Tallies) -> Counted
+/// Counts a file with those before it, or refuses to: the file by what document 01 refuses, the tallies by 14.
+pub fn count_file(source: &[u8], image: &[u8], t: Tallies) -> Result<Counted, Refused>
     ensures { Counts source.now image.now t result }
 {
-    match check(source, image) {
-        Answer::Refused(number, place) => Counted::Refused(number, place),
-        Answer::Accepted(doc) => count_accepted(source, image, doc, t),
-    }
+    count_accepted(Accepted::check(source, image)?, t)
 }

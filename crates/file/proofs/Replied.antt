@@ -1,23 +1,21 @@
 -- From the run of a frame's file to the bytes that it is answered with.
 -- Assumes nothing.
-use mathlib.Core.Path.{◌≡◌, sym, ap, ◌∙◌}
-use mathlib.Core.Option.{Option, none, some}
-use mathlib.Core.List.{List}
+use mathlib.Core.Path.{◌≡◌, sym, ap, ap₂, ◌∙◌}
+use Rattle.std.specs.Prelude.{Option, None, Some, Result, Ok, Err}
+use mathlib.Core.List.{List, ◌++◌}
 use Prim.Native.Nat.{ℕ, ◌≤◌}
 use native.Mathlib.Omega.{arith}
 use lib.ListN.{length, drop, length-append}
-use lib.Seq.{sets}
-use Rattle.rows.specs.declared.units.Bytes.{Bytes}
 use Rattle.refusals.specs.Refusals.{Refusal, unless}
-use Rattle.refusals.proofs.Answers.{refused_by, accepted_by, sets_front}
+use Rattle.refusals.specs.Reasons.{refusal}
+use Rattle.refusals.specs.declared.Refused.{Refused}
+use Rattle.refusals.proofs.Answers.{refused_by, accepted_by}
 use Rattle.cut_rule.specs.Run.{write_front}
 use Rattle.whole_run.specs.Built.{reference_choice, drawn_due}
 use Rattle.whole_run.specs.File.{FileResult, file_result}
 use Rattle.file.specs.Whole.{formatted_answer, source_of, image_of, frame_table, FormatsFrame}
-use Rattle.file.specs.declared.Formatted.{Formatted}
-use Rattle.file.specs.declared.Formatted.TheVariants as answer
+use Rattle.file.specs.declared.Text.{Text}
 use Rattle.lines.specs.Lines.{refused_line}
-use Rattle.lines.proofs.Lines.{line_short}
 use Rattle.file.specs.Reply.{program_refusal, reply_by, reply, Replies}
 
 module _ (frame out : List ℕ) (full : length out ≡ 65536) where
@@ -37,12 +35,11 @@ module _ (frame out : List ℕ) (full : length out ≡ 65536) where
   table_same : table ≡ program_refusal frame
   table_same = ap (λ (n : ℕ). frame_table frame n) full
 
-  pub replied_text : (a : Formatted) (out2 : List ℕ) (n : Bytes) (l k m : ℕ) → FormatsFrame frame out a out2 → a ≡ answer.Text n l k m
-      → Replies frame out n.0 out2
+  pub replied_text : (a : Result Text Refused) (out2 : List ℕ) (t : Text) → FormatsFrame frame out a out2 → a ≡ Ok t → Replies frame out t.bytes.0 out2
   unfolding reply
-  replied_text a out2 n l k m f e =
+  replied_text a out2 u f e =
       let t = accepted_by table _ (file_result s b reference_choice) (ap formatted_answer (sym e) ∙ f.answer) in
-      let passes : program_refusal frame ≡ none = sym table_same ∙ t.passes in
+      let passes : program_refusal frame ≡ None = sym table_same ∙ t.passes in
       record {
         bytes_due = ap (λ (x : FileResult). x.bytes) t.is ∙ sym (ap (λ (o : Option Refusal). length (reply_by o text)) passes);
         output_left_of =
@@ -51,23 +48,22 @@ module _ (frame out : List ℕ) (full : length out ≡ 65536) where
             ∙ sym (ap (λ (o : Option Refusal). write_front (reply_by o text) out) passes);
       }
 
-  pub replied_line : (a : Formatted) (out1 out2 : List ℕ) (end n p : ℕ) → FormatsFrame frame out a out1 → a ≡ answer.Refused n p
-      → (out2 ≡ sets out1 0 (refused_line (record { number = n; place = p }))) × (end ≡ length (refused_line (record { number = n; place = p })))
-      → Replies frame out end out2
+  pub replied_line : (a : Result Text Refused) (out1 : List ℕ) (why : Refused) → FormatsFrame frame out a out1 → a ≡ Err why
+      → (line : List ℕ) (n : ℕ)
+      → line ≡ refused_line (refusal why)
+      → n ≡ length line
+      → Replies frame out n (line ++ drop n out1)
   unfolding reply
-  replied_line a out1 out2 end n p f e w =
-      let r : Refusal = record { number = n; place = p } in
-      let refuses : table ≡ some r = refused_by table _ r (ap formatted_answer (sym e) ∙ f.answer) in
-      let stops : program_refusal frame ≡ some r = sym table_same ∙ refuses in
+  replied_line a out1 why f e line n l k =
+      let r : Refusal = refusal why in
+      let refuses : table ≡ Some r = refused_by table _ r (ap formatted_answer (sym e) ∙ f.answer) in
+      let stops : program_refusal frame ≡ Some r = sym table_same ∙ refuses in
       let same : out1 ≡ out = f.output_left_of ∙ ap (λ (o : Option Refusal). unless o out (write_front text out)) refuses in
-      let short = line_short r in
-      let put : sets out 0 (refused_line r) ≡ write_front (refused_line r) out = sets_front (refused_line r) out (omega arith) in
       record {
-        bytes_due = w.1 ∙ sym (ap (λ (o : Option Refusal). length (reply_by o text)) stops);
+        bytes_due = k ∙ ap length l ∙ sym (ap (λ (o : Option Refusal). length (reply_by o text)) stops);
         output_left_of =
-            w.0
-            ∙ ap (λ (l : List ℕ). sets l 0 (refused_line r)) same
-            ∙ put
+            ap (λ (i : ℕ). line ++ drop i out1) k
+            ∙ ap₂ write_front l same
             ∙ sym (ap (λ (o : Option Refusal). write_front (reply_by o text) out) stops);
       }
 

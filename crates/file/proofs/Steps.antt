@@ -2,7 +2,7 @@
 -- Assumes nothing.
 use mathlib.Core.Path.{◌≡◌, sym, ap, ap₂, ◌∙◌}
 use mathlib.Core.Bool.{Bool, true, false, not}
-use mathlib.Core.Option.{Option, none, some}
+use Rattle.std.specs.Prelude.{Option, None, Some, Result, Ok, Err}
 use mathlib.Core.List.{List, [], ◌∷◌}
 use Prim.Native.Nat.{ℕ, ◌≤◌, ◌<◌}
 use borrow.Author.Tests.{lt-ltb, le-ltb, not-true, not-false}
@@ -11,10 +11,11 @@ use Rattle.image.specs.Read.{read_all, read_refusal, outcome, Accepts}
 use Rattle.image.specs.declared.Document.{Document}
 use Rattle.image.proofs.Answers.{read_refusal_lem}
 use Rattle.rows.specs.Rows.{rows}
-use Rattle.rows.specs.declared.units.Bytes.{Bytes}
-use Rattle.rows.specs.declared.units.Columns.{Columns}
 use Rattle.refusals.specs.Refusals.{Refusal, unless, first, refuse_if, any}
 use Rattle.refusals.specs.Answers.{refused, accepted, answer_by, refusal_of}
+use Rattle.refusals.specs.Reasons.{refusal}
+use Rattle.refusals.specs.declared.Refused.{Refused}
+use Rattle.refusals.specs.declared.Reason.TheVariants as reason
 use Rattle.refusals.proofs.Answers.{refused_by}
 use Rattle.cut_rule.specs.Run.{laid_out, written, write_front}
 use Rattle.cut_rule.specs.Entries.{layout_answer, layout_store, render_answer, render_marks, render_output}
@@ -36,65 +37,72 @@ use Rattle.layout_call.specs.Calls as layouts
 use Rattle.layout_call.specs.Whole.{LayoutCalled}
 use Rattle.layout_call.specs.declared.LayoutState.{LayoutState}
 use Rattle.layout_call.specs.declared.LayoutArgs.{LayoutArgs}
-use Rattle.layout_call.specs.declared.Laying.{Laying}
-use Rattle.layout_call.specs.declared.Laying.TheVariants as laying
+use Rattle.layout_call.specs.declared.Laid.{Laid}
 use Rattle.render_call.specs.Calls as renders
 use Rattle.render_call.specs.Whole.{Checked, Draws}
 use Rattle.render_call.specs.declared.RenderState.{RenderState}
 use Rattle.render_call.specs.declared.RenderArgs.{RenderArgs}
-use Rattle.render_call.specs.declared.Drawing.{Drawing}
-use Rattle.render_call.specs.declared.Drawing.TheVariants as drawing
+use Rattle.render_call.specs.declared.Drawn.{Drawn}
 use Rattle.file.specs.Whole.{formatted_answer, formatted_of, RunsFile, Formats}
-use Rattle.file.specs.declared.Formatted.{Formatted}
-use Rattle.file.specs.declared.Formatted.TheVariants as answer
-use Rattle.file.specs.declared.FileRun.{FileRun}
-use Rattle.file.specs.declared.FileRun.TheVariants as run
+use Rattle.file.specs.declared.Text.{Text}
+use Rattle.file.specs.declared.Run.{Run}
 
--- a refusal from its number and its place
-abbrev at : ℕ → ℕ → Refusal
-at n p = record { number = n; place = p }
+-- what refuses the choice
+abbrev pub mode_refusal : Refused
+mode_refusal = record { reason = reason.State; place = 0 }
+
+abbrev pub width_refusal : Refused
+width_refusal = record { reason = reason.Width; place = 0 }
+
+-- a state whose fields are all their types' defaults
+pub fresh_by : {t : LayoutState}
+    → (t.begun ≡ false)
+    × ((t.closed ≡ false)
+    × ((t.declaration ≡ 0) × ((t.row ≡ 0) × ((t.number ≡ 0) × ((t.placed ≡ 0) × ((t.position ≡ 0) × (t.mode ≡ 0)))))))
+    → layouts.to_state t ≡ layout_fresh
+fresh_by {t} h = cc
 
 module _ (s b : List ℕ) (c : FileChoice) where
   abbrev width_legal : Option Refusal
   width_legal = width_line (render_choice c) render_fresh
 
   -- ---- 1 to 7
-  pub check_refused : (out : List ℕ) (n p : ℕ) → outcome (read_all s b) ≡ refused (at n p) → Formats s b c out (answer.Refused n p) out
-  check_refused out n p e =
-      let first_one : first (file_before_rows s b c) ≡ some (at n p) =
+  pub check_refused : (out : List ℕ) (r : Refused) → outcome (read_all s b) ≡ refused (refusal r) → Formats s b c out (Err r) out
+  check_refused out r e =
+      let first_one : first (file_before_rows s b c) ≡ Some (refusal r) =
       ap (λ (x : Option Refusal). first (x ∷ mode_line c ∷ width_legal ∷ [])) (sym (read_refusal_lem (read_all s b)) ∙ ap refusal_of e)
       in
-      let r : file_refusal s b c (length out) ≡ some (at n p) =
-      stops_whole s b c (at n p) file_rows file_marks (length out) (stops_laid s b c (at n p) file_rows first_one)
+      let t : file_refusal s b c (length out) ≡ Some (refusal r) =
+      stops_whole s b c (refusal r) file_rows file_marks (length out) (stops_laid s b c (refusal r) file_rows first_one)
       in
       record {
-        answer = sym (ap (λ (x : Option Refusal). answer_by x (file_result s b c)) r);
-        output_left_of = sym (ap (λ (x : Option Refusal). unless x out (write_front (drawn_due s b c).text out)) r);
+        answer = sym (ap (λ (x : Option Refusal). answer_by x (file_result s b c)) t);
+        output_left_of = sym (ap (λ (x : Option Refusal). unless x out (write_front (drawn_due s b c).text out)) t);
       }
 
   -- ---- then what is chosen, line by line
   module _ {d : Document} (a : Accepts s b d) where
-    read : read_refusal (read_all s b) ≡ none
+    read : read_refusal (read_all s b) ≡ None
     read = sym (read_refusal_lem (read_all s b)) ∙ ap refusal_of a.answer
 
     -- 12
-    pub mode_refused : states.NEW_MODE < c.mode → first (file_before_rows s b c) ≡ some (at 12 0)
+    pub mode_refused : states.NEW_MODE < c.mode → first (file_before_rows s b c) ≡ Some (refusal mode_refusal)
     mode_refused h =
-        let over : mode_line c ≡ some (at 12 0) = rw (lt-ltb states.NEW_MODE c.mode h) in
+        let over : mode_line c ≡ Some (refusal mode_refusal) = rw (lt-ltb states.NEW_MODE c.mode h) in
         λ i. first (read i ∷ over i ∷ width_legal ∷ [])
 
     module _ (mode : c.mode ≤ states.NEW_MODE) (x : Bool) (fits : x ≡ not (any (tests.width_tests c.width 0))) where
-      moded : mode_line c ≡ none
+      moded : mode_line c ≡ None
       moded = rw (le-ltb states.NEW_MODE c.mode mode)
 
       -- 15
-      pub width_refused : not x ≡ true → first (file_before_rows s b c) ≡ some (at 15 0)
+      pub width_refused : not x ≡ true → first (file_before_rows s b c) ≡ Some (refusal width_refusal)
       width_refused h =
           let t : any (tests.width_tests c.width 0) ≡ true = not-false (any (tests.width_tests c.width 0)) (sym fits ∙ not-true x h) in
           λ i. first (read i ∷ moded i ∷ refuse_if (t i) 15 0 ∷ [])
 
       -- neither
-      pub choice_passes : not x ≡ false → first (file_before_rows s b c) ≡ none
+      pub choice_passes : not x ≡ false → first (file_before_rows s b c) ≡ None
       choice_passes h =
           let t : any (tests.width_tests c.width 0) ≡ false = not-true (any (tests.width_tests c.width 0)) (sym fits ∙ not-false x h) in
           λ i. first (read i ∷ moded i ∷ refuse_if (t i) 15 0 ∷ [])
@@ -108,9 +116,9 @@ module _ (s b : List ℕ) (c : FileChoice) where
     laid = laid_refusal s b c (tests.rows_in store)
 
     -- rows and marks as many as a whole file has: its run
-    pub runs_whole : tests.rows_in store ≡ file_rows → length marks ≡ file_marks → (r : FileRun) (store2 marks2 out2 : List ℕ)
+    pub runs_whole : tests.rows_in store ≡ file_rows → length marks ≡ file_marks → (r : Result Run Refused) (store2 marks2 out2 : List ℕ)
         → RunsFile s b c store marks out r store2 marks2 out2
-        → (a : Formatted)
+        → (a : Result Text Refused)
         → a ≡ formatted_of r
         → Formats s b c out a out2
     runs_whole rowed marked r store2 marks2 out2 f a e =
@@ -121,10 +129,10 @@ module _ (s b : List ℕ) (c : FileChoice) where
         }
 
     -- refused by the layout call, or before it
-    laid_refused : (n p : ℕ) (store2 : List ℕ) → laid ≡ some (at n p) → store2 ≡ store_left s b c store
-        → RunsFile s b c store marks out (run.Stopped n p) store2 marks out
-    laid_refused n p store2 e h =
-        let r = stops_whole s b c (at n p) (tests.rows_in store) (length marks) (length out) e in
+    laid_refused : (why : Refused) (store2 : List ℕ) → laid ≡ Some (refusal why) → store2 ≡ store_left s b c store
+        → RunsFile s b c store marks out (Err why) store2 marks out
+    laid_refused why store2 e h =
+        let r = stops_whole s b c (refusal why) (tests.rows_in store) (length marks) (length out) e in
         record {
           answer = sym (ap (λ (x : Option Refusal). answer_by x (file_result s b c)) r);
           widest = sym (ap (λ (x : Option Refusal). unless x 0 (column_due s b c)) r);
@@ -134,13 +142,13 @@ module _ (s b : List ℕ) (c : FileChoice) where
         }
 
     -- refused before the layout call: the rows stay as they were
-    pub before_layout : (n p : ℕ) → first (file_before_rows s b c) ≡ some (at n p) → RunsFile s b c store marks out (run.Stopped n p) store marks out
-    before_layout n p e =
-        let r = stops_laid s b c (at n p) (tests.rows_in store) e in
-        laid_refused n p store r (sym (ap (λ (y : Option Refusal). unless y store (write_front (rows (built s b c).nodes 0) store)) r))
+    pub before_layout : (why : Refused) → first (file_before_rows s b c) ≡ Some (refusal why) → RunsFile s b c store marks out (Err why) store marks out
+    before_layout why e =
+        let r = stops_laid s b c (refusal why) (tests.rows_in store) e in
+        laid_refused why store r (sym (ap (λ (y : Option Refusal). unless y store (write_front (rows (built s b c).nodes 0) store)) r))
 
     -- ---- the layout call, where none of these lines refuses
-    module _ (passed : first (file_before_rows s b c) ≡ none) (state : LayoutState) (q : LayoutArgs) (r : Laying) (store2 : List ℕ)
+    module _ (passed : first (file_before_rows s b c) ≡ None) (state : LayoutState) (q : LayoutArgs) (r : Result Laid Refused) (store2 : List ℕ)
         (fresh : layouts.to_state state ≡ layout_fresh) (all : layouts.to_args q ≡ closing_at (layout_choice c) (length (declared s b)))
         (call : LayoutCalled s b state q store r store2) where
       layout_answer_lem : layouts.laying_answer s b r ≡ answer_by laid (laid_out (state_due s b c) (file_result s b c).left)
@@ -155,16 +163,16 @@ module _ (s b : List ℕ) (c : FileChoice) where
           ∙ ap₂ (λ (t : states.LayoutState) (x : rules.LayoutArgs states.LayoutChoice). layout_store (rules_of s b) x t store) fresh all
           ∙ layout_store_due s b c passed store
 
-      pub layout_refused : (n p : ℕ) → r ≡ laying.Refused n p → RunsFile s b c store marks out (run.Stopped n p) store2 marks out
-      layout_refused n p e =
-          laid_refused n p store2 (refused_by laid _ (at n p) (ap (layouts.laying_answer s b) (sym e) ∙ layout_answer_lem)) layout_left
+      pub layout_refused : (why : Refused) → r ≡ Err why → RunsFile s b c store marks out (Err why) store2 marks out
+      layout_refused why e =
+          laid_refused why store2 (refused_by laid _ (refusal why) (ap (layouts.laying_answer s b) (sym e) ∙ layout_answer_lem)) layout_left
 
       -- ---- the rendering call
-      module _ (t : LayoutState) (left : ℕ) (is : r ≡ laying.Laid t left) (pen : RenderState) (blank : renders.to_state pen ≡ render_fresh) where
-        laid_out_lem : LaidBy (rules_of s b) laid (layouts.to_state t) left (state_due s b c) (file_result s b c).left
-        laid_out_lem = laid_by (rules_of s b) laid _ left (state_due s b c) _ (ap (layouts.laying_answer s b) (sym is) ∙ layout_answer_lem)
+      module _ (t : Laid) (is : r ≡ Ok t) (pen : RenderState) (blank : renders.to_state pen ≡ render_fresh) where
+        laid_out_lem : LaidBy (rules_of s b) laid (layouts.to_state t.state) t.left (state_due s b c) (file_result s b c).left
+        laid_out_lem = laid_by (rules_of s b) laid _ t.left (state_due s b c) _ (ap (layouts.laying_answer s b) (sym is) ∙ layout_answer_lem)
 
-        to_row : t.row ≡ rows_due s b c
+        to_row : t.state.row ≡ rows_due s b c
         to_row = ap (λ (x : states.LayoutState). x.cursor.row) laid_out_lem.state
 
         -- up to a row, at the width
@@ -173,18 +181,18 @@ module _ (s b : List ℕ) (c : FileChoice) where
 
         -- what the call had is what is due
         same : {A : Type 0} (f : states.RenderState → RenderArgs → List ℕ → A)
-            → f (renders.to_state pen) (to t.row) store2 ≡ f render_fresh (to (rows_due s b c)) (store_left s b c store)
+            → f (renders.to_state pen) (to t.state.row) store2 ≡ f render_fresh (to (rows_due s b c)) (store_left s b c store)
         same f = λ i. f (blank i) (to (to_row i)) (layout_left i)
 
         -- the rows that the layout call leaves are right
-        pub drawn_starts : Checked s b pen (to t.row) store2 marks
+        pub drawn_starts : Checked s b pen (to t.state.row) store2 marks
         drawn_starts = record {
           passes =
               same (λ x q rows. first (before_marks (parts_of s b) (renders.to_args q 0) x rows marks))
               ∙ render_early_due s b c store marks [] laid_out_lem.passes;
         }
 
-        module _ (o : Drawing) (store3 marks2 out2 : List ℕ) (drew : Draws s b pen (to t.row) store2 marks out o store3 marks2 out2) where
+        module _ (o : Result Drawn Refused) (store3 marks2 out2 : List ℕ) (drew : Draws s b pen (to t.state.row) store2 marks out o store3 marks2 out2) where
           drawn_answer : renders.rendering_answer s b (renders.rendering_of o) ≡ answer_by table (written (rendered_due s b c) (file_result s b c).bytes)
           drawn_answer =
               drew.called.answer
@@ -219,10 +227,10 @@ module _ (s b : List ℕ) (c : FileChoice) where
               ∙ same (λ x q rows. unless ((rules_of s b).render_refusal (renders.to_args q (length out)) x rows marks) 0 (widest_in x q rows))
               ∙ render_widest_due s b c store marks out laid_out_lem.passes
 
-          pub drawn_refused : (n p : ℕ) → o ≡ drawing.Refused n p → RunsFile s b c store marks out (run.Stopped n p) store3 marks2 out2
-          drawn_refused n p e =
-              let r : table ≡ some (at n p) =
-              refused_by table _ (at n p) (ap (λ (x : Drawing). renders.rendering_answer s b (renders.rendering_of x)) (sym e) ∙ drawn_answer)
+          pub drawn_refused : (why : Refused) → o ≡ Err why → RunsFile s b c store marks out (Err why) store3 marks2 out2
+          drawn_refused why e =
+              let r : table ≡ Some (refusal why) =
+              refused_by table _ (refusal why) (ap (λ (x : Result Drawn Refused). renders.rendering_answer s b (renders.rendering_of x)) (sym e) ∙ drawn_answer)
               in
               record {
                 answer = sym (ap (λ (x : Option Refusal). answer_by x (file_result s b c)) r);
@@ -232,13 +240,17 @@ module _ (s b : List ℕ) (c : FileChoice) where
                 output_left_of = output_same;
               }
 
-          pub drawn_formats : (u : RenderState) (bytes : Bytes) (widest : Columns) → o ≡ drawing.Drawn u bytes widest
-              → RunsFile s b c store marks out (run.Text bytes left t.row t.number widest) store3 marks2 out2
-          drawn_formats u bytes widest e =
-              let w = written_by (rules_of s b) table (renders.to_state u) bytes.0 (rendered_due s b c) _
-              (ap (λ (x : Drawing). renders.rendering_answer s b (renders.rendering_of x)) (sym e) ∙ drawn_answer)
+          pub drawn_formats : (u : Drawn) → o ≡ Ok u
+              → RunsFile s b c store marks out
+              (Ok (record { text = record { bytes = u.written.bytes; left = t.left; rows = t.state.row; numbers = t.state.number }; widest = u.widest }))
+              store3
+              marks2
+              out2
+          drawn_formats u e =
+              let w = written_by (rules_of s b) table (renders.to_state u.written.state) u.written.bytes.0 (rendered_due s b c) _
+              (ap (λ (x : Result Drawn Refused). renders.rendering_answer s b (renders.rendering_of x)) (sym e) ∙ drawn_answer)
               in
-              let number : t.number ≡ (built s b c).taken = ap (λ (x : states.LayoutState). x.cursor.number) laid_out_lem.state in
+              let number : t.state.number ≡ (built s b c).taken = ap (λ (x : states.LayoutState). x.cursor.number) laid_out_lem.state in
               record {
                 answer =
                     (λ i. accepted (record { bytes = w.bytes i; left = laid_out_lem.left i; rows = to_row i; numbers = number i }))

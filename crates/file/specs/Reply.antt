@@ -1,6 +1,5 @@
 -- What the program writes for the frame that it reads: "It writes the text alone, or one line `refused N at P`, both decimal."
-use Rattle.std.specs.Prelude.{◌≡◌, List, ℕ, length}
-use Rattle.std.proofs.Math.Option.{Option, none, some}
+use Rattle.std.specs.Prelude.{◌≡◌, List, ℕ, length, Option, None, Some}
 use Rattle.refusals.specs.Refusals.{Refusal}
 use Rattle.lines.specs.Lines.{refused_line}
 use Rattle.cut_rule.specs.Run.{write_front}
@@ -15,8 +14,8 @@ abbrev pub program_refusal : List ℕ → Option Refusal
 program_refusal frame = frame_table frame program_room
 
 abbrev pub reply_by : Option Refusal → List ℕ → List ℕ
-reply_by (some r) text = refused_line r
-reply_by none text = text
+reply_by (Some r) text = refused_line r
+reply_by None text = text
 
 -- the bytes that a frame is answered with: the text of its file, as `Renderer` renders what `fmt_parsed` builds, or the refusal
 unfoldable pub reply : List ℕ → List ℕ

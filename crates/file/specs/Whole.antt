@@ -1,42 +1,43 @@
 -- What the run of one file, or of one frame, answers and leaves: rows and marks are its own, the output is lent. Below it stands the run in
 -- rows and marks that are lent too.
-use Rattle.std.specs.Prelude.{◌≡◌, Bool, not, ◌&&◌, List, [], ◌∷◌, ℕ, ◌+◌, leb, length, take, drop}
-use Rattle.std.proofs.Math.Option.{Option}
+use Rattle.std.specs.Prelude.{◌≡◌, Bool, not, ◌&&◌, List, [], ◌∷◌, ℕ, ◌+◌, leb, length, take, drop, Option, Result, Ok, Err}
 use Rattle.image.specs.Bytes.{be32}
 use Rattle.refusals.specs.Refusals.{Refusal, unless, first, refuse_if}
-use Rattle.refusals.specs.Answers.{Answer, refused, accepted, answer_by}
+use Rattle.refusals.specs.Answers.{Answer, answer_by}
+use Rattle.refusals.specs.Reasons.{answer_of}
+use Rattle.refusals.specs.declared.Refused.{Refused}
 use Rattle.cut_rule.specs.Run.{write_front}
 use Rattle.cut_rule.specs.Tests.{rows_in}
 use Rattle.whole_run.specs.Built as plain
 use Rattle.whole_run.specs.Built.{reference_choice, drawn_due, column_due}
 use Rattle.whole_run.specs.File.{FileResult, file_result, answer_in, file_answer, file_refusal, file_output, refusal_in, store_left, marks_left, output_left}
 use Rattle.file.specs.declared.FileChoice.{FileChoice}
-use Rattle.file.specs.declared.Formatted.{Formatted}
-use Rattle.file.specs.declared.Formatted.TheVariants as answer
-use Rattle.file.specs.declared.FileRun.{FileRun}
-use Rattle.file.specs.declared.FileRun.TheVariants as run
+use Rattle.file.specs.declared.Text.{Text}
+use Rattle.file.specs.declared.Run.{Run}
 
 -- "other entries over whole files take their caller's choice"
 abbrev pub to_choice : FileChoice → plain.FileChoice
 to_choice c = record { width = c.width.0; mode = c.mode }
 
--- An answer, case by case: the bytes written, the comments left, the rows and the group numbers; "Number and place are all that comes back."
-abbrev pub formatted_answer : Formatted → Answer FileResult
-formatted_answer (answer.Text bytes left rows numbers) = accepted (record { bytes = bytes.0; left = left; rows = rows; numbers = numbers })
-formatted_answer (answer.Refused n p) = refused (record { number = n; place = p })
+-- An answer: the bytes written, the comments left, the rows and the group numbers; "Number and place are all that comes back."
+abbrev pub to_result : Text → FileResult
+to_result t = record { bytes = t.bytes.0; left = t.left; rows = t.rows; numbers = t.numbers }
+
+abbrev pub formatted_answer : Result Text Refused → Answer FileResult
+formatted_answer = answer_of to_result
 
 -- A run with its greatest column: the answer of the entries above it, which refuse where it stops; and that column, 0 where it stops.
-abbrev pub formatted_of : FileRun → Formatted
-formatted_of (run.Text bytes left rows numbers widest) = answer.Text bytes left rows numbers
-formatted_of (run.Stopped n p) = answer.Refused n p
+abbrev pub formatted_of : Result Run Refused → Result Text Refused
+formatted_of (Ok r) = Ok r.text
+formatted_of (Err r) = Err r
 
-abbrev pub widest_of : FileRun → ℕ
-widest_of (run.Text bytes left rows numbers widest) = widest.0
-widest_of (run.Stopped n p) = 0
+abbrev pub widest_of : Result Run Refused → ℕ
+widest_of (Ok r) = r.widest.0
+widest_of (Err r) = 0
 
 -- the answer with the greatest column, and store, marks and output at exit, for one source and image and what the caller chose: where the run
 -- stops after the layout call, `store_left` has its rows
-pub record RunsFile (source image : List ℕ) (choice : plain.FileChoice) (store marks out : List ℕ) (r : FileRun) (store2 marks2 out2 : List ℕ) : Type 0 where
+pub record RunsFile (source image : List ℕ) (choice : plain.FileChoice) (store marks out : List ℕ) (r : Result Run Refused) (store2 marks2 out2 : List ℕ) : Type 0 where
   pub answer : formatted_answer (formatted_of r) ≡ answer_in source image choice (rows_in store) (length marks) (length out)
   pub widest : widest_of r ≡ unless (refusal_in source image choice (rows_in store) (length marks) (length out)) 0 (column_due source image choice)
   pub store_left_of : store2 ≡ store_left source image choice store
@@ -44,7 +45,7 @@ pub record RunsFile (source image : List ℕ) (choice : plain.FileChoice) (store
   pub output_left_of : out2 ≡ output_left source image choice store marks out
 
 -- the answer, and the output at exit, for one source and image and what the caller chose, with rows and marks of its own
-pub record Formats (source image : List ℕ) (choice : plain.FileChoice) (out : List ℕ) (r : Formatted) (out2 : List ℕ) : Type 0 where
+pub record Formats (source image : List ℕ) (choice : plain.FileChoice) (out : List ℕ) (r : Result Text Refused) (out2 : List ℕ) : Type 0 where
   pub answer : formatted_answer r ≡ file_answer source image choice (length out)
   pub output_left_of : out2 ≡ file_output source image choice out
 
@@ -74,6 +75,6 @@ abbrev pub frame_output : List ℕ → List ℕ → List ℕ
 frame_output frame out =
     unless (frame_table frame (length out)) out (write_front (drawn_due (source_of frame) (image_of frame) reference_choice).text out)
 
-pub record FormatsFrame (frame out : List ℕ) (r : Formatted) (out2 : List ℕ) : Type 0 where
+pub record FormatsFrame (frame out : List ℕ) (r : Result Text Refused) (out2 : List ℕ) : Type 0 where
   pub answer : formatted_answer r ≡ frame_answer frame (length out)
   pub output_left_of : out2 ≡ frame_output frame out

@@ -1,20 +1,20 @@
 // What the program writes for a frame.
 ghost use Rattle.file.specs.Reply.{Replies};
 
-use crate::{Formatted, format_frame};
+use crate::format_frame;
 use lines::refused_line;
 
-// Puts the text of the frame's file, or the line that refuses it, at the start of the output; how many bytes that is.
+/// Puts the text of the frame's file, or the line that refuses it, at the start of the output; how many bytes that is.
 pub fn reply(frame: &[u8], out: &mut [u8; 65536]) -> usize
     ensures { Replies frame.now out.old result out.new }
 {
     match format_frame(frame, out) {
-        Formatted::Text {
-            bytes,
-            left,
-            rows,
-            numbers,
-        } => bytes.0,
-        Formatted::Refused(number, place) => refused_line(out, number, place),
+        Ok(text) => text.bytes.0,
+        Err(refused) => {
+            let line = refused_line(refused);
+            let end = line.len();
+            out[..end].copy_from_slice(line.as_str().as_bytes());
+            end
+        }
     }
 }

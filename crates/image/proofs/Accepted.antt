@@ -14,7 +14,6 @@ use Rattle.refusals.specs.Answers.{accepted as given}
 use Rattle.image.specs.Bytes.{be16, be32}
 use Rattle.image.specs.Read.{Read, got, bad, bind, Tree, Image, header, comments, record_at, tree_at, read_tree}
 use Rattle.image.specs.Read.{read_image, source_fits, read_all, step_of, document_of, outcome, Accepts}
-use Rattle.image.specs.declared.records.Step.TheVariants.{Next}
 use Rattle.image.specs.declared.Document.{Document}
 use Rattle.image.proofs.Shapes.{is_got}
 use Rattle.image.proofs.Reading.{record_within}
@@ -80,7 +79,7 @@ named : (i : Image) (t : Tree) (k n a at q e : ℕ) → i ≡ record { comments 
     → got i q ≡ got (record { comments = n; tree = t; at = at }) e
 named i t k n a at q e is en ea eq = rw (is, en, ea, eq)
 
-tree_root : (ordered : Bool) (s b : List ℕ) (a n at q : ℕ) (i : Image) → header b ≡ true → step_of (comments ordered s b) ≡ Next a
+tree_root : (ordered : Bool) (s b : List ℕ) (a n at q : ℕ) (i : Image) → header b ≡ true → step_of (comments ordered s b) ≡ given a
     → read_image ordered s b ≡ got i q → i.comments ≡ n → i.at ≡ at → Root ordered s b n at
 unfolding tree_at
 tree_root ordered s b a n at q i hd c whole en ea =

@@ -12,9 +12,9 @@ use lib.Dec.{leb, ltb}
 use borrow.Author.Tests.{leb-true, ltb-true}
 use Rattle.text.specs.Newlines.{is_range}
 use Rattle.laws.proofs.Booleans.{and_left, and_right}
+use Rattle.refusals.specs.Answers.{accepted}
 use Rattle.image.specs.Bytes.{be16, be32}
 use Rattle.image.specs.Read.{got, bad, comment_fits, comments_from, comments, step_of}
-use Rattle.image.specs.declared.records.Step.TheVariants.{Next}
 
 -- where the comment after the one at `at` may start at the earliest
 abbrev pub least_after : Bool → List ℕ → ℕ → ℕ
@@ -54,7 +54,7 @@ pub record Listed (s b : List ℕ) (n at q : ℕ) : Type 0 where
   pub stop : q ≡ at + 8 * n
   pub each : (i : ℕ) → i < n → Comment s b (at + 8 * i)
 
-listed_from : (o : Bool) (s b : List ℕ) (n least at q : ℕ) → step_of (comments_from o s b n least at) ≡ Next q → Listed s b n at q
+listed_from : (o : Bool) (s b : List ℕ) (n least at q : ℕ) → step_of (comments_from o s b n least at) ≡ accepted q → Listed s b n at q
 unfolding comments_from
 listed_from o s b zero least at q e =
     let same : at ≡ q = cc in
@@ -65,8 +65,8 @@ listed_from o s b (suc n) least at q e = go (comment_fits s b least at) refl e (
     each_of c l zero h = let e : at ≡ at + 8 * 0 = omega arith in rw e at c
     each_of c l (suc i) h = let e : at + 8 + 8 * i ≡ at + 8 * suc i = omega arith in rw e at (l.each i (omega arith))
 
-    go : (t : Bool) → comment_fits s b least at ≡ t → step_of (cond t (comments_from o s b n (least_after o b at) (at + 8)) (bad 7 at)) ≡ Next q
-        → (step_of (comments_from o s b n (least_after o b at) (at + 8)) ≡ Next q → Listed s b n (at + 8) q) → Listed s b (suc n) at q
+    go : (t : Bool) → comment_fits s b least at ≡ t → step_of (cond t (comments_from o s b n (least_after o b at) (at + 8)) (bad 7 at)) ≡ accepted q
+        → (step_of (comments_from o s b n (least_after o b at) (at + 8)) ≡ accepted q → Listed s b n (at + 8) q) → Listed s b (suc n) at q
     go true c e more =
         let l = more e in
         record { stop = omega (arith, l.stop); each = each_of (fits_comment s b least at c) l }
@@ -78,12 +78,12 @@ pub record Comments (s b : List ℕ) (q : ℕ) : Type 0 where
   pub within : 7 + 8 * be16 b 5 ≤ length b
   pub list : Listed s b (be16 b 5) 7 q
 
-pub listed : (o : Bool) (s b : List ℕ) (q : ℕ) → step_of (comments o s b) ≡ Next q → Comments s b q
+pub listed : (o : Bool) (s b : List ℕ) (q : ℕ) → step_of (comments o s b) ≡ accepted q → Comments s b q
 unfolding comments
 listed o s b q e = go (leb 7 (length b)) (leb (be16 b 5) 8192) refl (leb (7 + 8 * be16 b 5) (length b)) refl e
   where
     go : (x y : Bool) → leb (be16 b 5) 8192 ≡ y → (z : Bool) → leb (7 + 8 * be16 b 5) (length b) ≡ z
-        → step_of (cond (x && y && z) (comments_from o s b (be16 b 5) 0 7) (bad 7 5)) ≡ Next q → Comments s b q
+        → step_of (cond (x && y && z) (comments_from o s b (be16 b 5) 0 7) (bad 7 5)) ≡ accepted q → Comments s b q
     go true true f true g e =
         record { few = leb-true (be16 b 5) 8192 f; within = leb-true (7 + 8 * be16 b 5) (length b) g; list = listed_from o s b (be16 b 5) 0 7 q e }
     go true true f false g e = let z : ◌≡◌ {A = ℕ} 0 1 = cc in absurd (omega arith)

@@ -9,14 +9,14 @@ use native.Mathlib.Numerals.{sub-one}
 use lib.ListN.{length}
 use lib.Dec.{ltb, eqb}
 use borrow.Author.Tests.{lt-ltb, le-ltb, eq-eqb, ne_eqb}
+use Rattle.refusals.specs.Refusals.{Refusal}
+use Rattle.refusals.specs.Answers.{Answer, refused, accepted}
 use Rattle.image.specs.Bytes.{be32}
 use Rattle.image.specs.Kinds.{TEXT}
 use Rattle.image.specs.Grammar.{bare, place, after, complete, row_of, row_under_of, first_child}
 use Rattle.image.specs.Read.{Read, got, bad, bind, Head, head_at, stop_at, kind_at, Tree, Trees, absent, node}
 use Rattle.image.specs.Read.{nil, ◌▸◌, opens, skips, child_at, record_at, children_at, open_of, step_of}
-use Rattle.image.specs.declared.records.Step.{Step}
-use Rattle.image.specs.declared.records.Step.TheVariants.{Next, Fault}
-use Rattle.image.specs.declared.records.Open.TheVariants.{Record, Wrong}
+use Rattle.image.specs.declared.records.Opened as declared
 use Rattle.image.proofs.Shapes.{Opened, opened, is_opened, skips_within, kind_range}
 
 -- ---- one record
@@ -36,35 +36,36 @@ unfolding record_at
 record_opens s b v left p at end o = rw (is_opened o)
 
 -- what `opening` answers
-pub open_wrong : (s b : List ℕ) (v left p at end n q : ℕ) → open_of p (opens s b v left p at end) ≡ Wrong n q → record_at s b v left p at end ≡ bad n q
-open_wrong s b v left p at end n q e = go (opens s b v left p at end) refl e
+pub open_wrong : (s b : List ℕ) (v left p at end : ℕ) (x : Refusal) → open_of p (opens s b v left p at end) ≡ refused x
+    → step_of (record_at s b v left p at end) ≡ refused x
+open_wrong s b v left p at end x e = go (opens s b v left p at end) refl e
   where
-    go : (r : Read Head) → opens s b v left p at end ≡ r → open_of p r ≡ Wrong n q → record_at s b v left p at end ≡ bad n q
-    go (got h k) o e = let z : ◌≡◌ {A = ℕ} 0 1 = cc in absurd (omega arith)
-    go (bad m k) o e = record_bad s b v left p at end m k o ∙ (cc)
+    go : (r : Read Head) → opens s b v left p at end ≡ r → open_of p r ≡ refused x → step_of (record_at s b v left p at end) ≡ refused x
+    go (got h k) o e = cc
+    go (bad m k) o e = ap step_of (record_bad s b v left p at end m k o) ∙ (cc)
 
 pub is_record : (s b : List ℕ) (v left p at end k n f row : ℕ) → Opened s b v left p at end → k ≡ kind_at b at → n ≡ be32 b at
-    → f ≡ first_child k (at + 13) (at + 4 + n) → row ≡ row_under_of p k → Record f (at + 4 + n) row ≡ open_of p (opens s b v left p at end)
+    → f ≡ first_child k (at + 13) (at + 4 + n) → row ≡ row_under_of p k → accepted (record { first = f; stop = at + 4 + n; row = row }) ≡ open_of p (opens s b v left p at end)
 is_record s b v left p at end k n f row o ek en ef er = rw (ef, er, ek, en, is_opened o)
 
-pub record Opens (s b : List ℕ) (v left p at end f st row : ℕ) : Type 0 where
+pub record Opens (s b : List ℕ) (v left p at end : ℕ) (o : declared.Opened) : Type 0 where
   pub held : Opened s b v left p at end
-  pub first : f ≡ (head_at b at).first
-  pub stop : st ≡ stop_at b at
-  pub rows : row ≡ row_under_of p (kind_at b at)
+  pub first : o.first ≡ (head_at b at).first
+  pub stop : o.stop ≡ stop_at b at
+  pub rows : o.row ≡ row_under_of p (kind_at b at)
 
-pub open_record : (s b : List ℕ) (v left p at end f st row : ℕ) → open_of p (opens s b v left p at end) ≡ Record f st row
-    → Opens s b v left p at end f st row
-open_record s b v left p at end f st row e = go (opens s b v left p at end) refl e
+pub open_record : (s b : List ℕ) (v left p at end : ℕ) (o : declared.Opened) → open_of p (opens s b v left p at end) ≡ accepted o
+    → Opens s b v left p at end o
+open_record s b v left p at end i e = go (opens s b v left p at end) refl e
   where
-    go : (r : Read Head) → opens s b v left p at end ≡ r → open_of p r ≡ Record f st row → Opens s b v left p at end f st row
-    go (bad m k) o e = let z : ◌≡◌ {A = ℕ} 0 1 = cc in absurd (omega arith)
+    go : (r : Read Head) → opens s b v left p at end ≡ r → open_of p r ≡ accepted i → Opens s b v left p at end i
+    go (bad m k) o e = cc
     go (got h k) o e =
         let w = opened s b v left p at end h k o in
         let is = w.1 in
         record {
           held = w.0;
-          first = (cc w.2);
+          first = sym (cc) ∙ w.2;
           stop = (cc) ∙ ap (λ (g : Head). g.stop) is;
           rows = (cc) ∙ ap (λ (g : Head). row_under_of p g.kind) is;
         }
@@ -97,7 +98,7 @@ keeps f (got ts n) = refl
 keeps f (bad n p) = refl
 
 -- a text has no children: it is read to its end
-pub text_read : (s b : List ℕ) (v left at end : ℕ) → Opened s b v left TEXT at end → step_of (record_at s b v left TEXT at end) ≡ Next (stop_at b at)
+pub text_read : (s b : List ℕ) (v left at end : ℕ) → Opened s b v left TEXT at end → step_of (record_at s b v left TEXT at end) ≡ accepted (stop_at b at)
 unfolding row_under_of first_child row_of
 text_read s b v zero at end o = absurd (o.more refl)
 text_read s b v (suc left) at end o =
@@ -107,12 +108,12 @@ text_read s b v (suc left) at end o =
     ∙ keeps (node (head_at b at)) (within s b v left TEXT at)
     ∙ rw k (ap step_of (ended (child_at s b v left) (length b) 0 (stop_at b at) (stop_at b at) (omega arith) refl))
 
-rest_bad : (one : ℕ → ℕ → ℕ → Read Tree) (n row stop : ℕ) (r : Read Tree) (m q : ℕ) → step_of r ≡ Fault m q
-    → step_of (rest one n row stop r) ≡ Fault m q
-rest_bad one n row stop (got t k) m q e = let z : ◌≡◌ {A = ℕ} 0 1 = cc in absurd (omega arith)
-rest_bad one n row stop (bad k p) m q e = e
+rest_bad : (one : ℕ → ℕ → ℕ → Read Tree) (n row stop : ℕ) (r : Read Tree) (x : Refusal) → step_of r ≡ refused x
+    → step_of (rest one n row stop r) ≡ refused x
+rest_bad one n row stop (got t k) x e = let z : ◌≡◌ {A = ℕ} 0 1 = cc in absurd (omega arith)
+rest_bad one n row stop (bad k p) x e = e
 
-rest_next : (one : ℕ → ℕ → ℕ → Read Tree) (n row stop : ℕ) (r : Read Tree) (q : ℕ) → step_of r ≡ Next q
+rest_next : (one : ℕ → ℕ → ℕ → Read Tree) (n row stop : ℕ) (r : Read Tree) (q : ℕ) → step_of r ≡ accepted q
     → step_of (rest one n row stop r) ≡ step_of (children_at one n (after row) q stop)
 rest_next one n row stop (got t k) q e =
     let same : k ≡ q = cc in
@@ -120,13 +121,13 @@ rest_next one n row stop (got t k) q e =
 rest_next one n row stop (bad k p) q e = let z : ◌≡◌ {A = ℕ} 0 1 = cc in absurd (omega arith)
 
 -- The whole reading of the children ends as the reading from here on does, with turns enough for the bytes that are left.
-pub record Going (one : ℕ → ℕ → ℕ → Read Tree) (whole : Step) (row at stop : ℕ) : Type 0 where
+pub record Going (one : ℕ → ℕ → ℕ → Read Tree) (whole : Answer ℕ) (row at stop : ℕ) : Type 0 where
   pub turns : ℕ
   pub enough : stop - at ≤ turns
   pub same : whole ≡ step_of (children_at one (suc turns) row at stop)
 
-pub go_on : (one : ℕ → ℕ → ℕ → Read Tree) (whole : Step) (row at stop q : ℕ) → at < stop → ¬ (row ≡ 0)
-    → step_of (one (place row) at stop) ≡ Next q → at < q → Going one whole row at stop → Going one whole (after row) q stop
+pub go_on : (one : ℕ → ℕ → ℕ → Read Tree) (whole : Answer ℕ) (row at stop q : ℕ) → at < stop → ¬ (row ≡ 0)
+    → step_of (one (place row) at stop) ≡ accepted q → at < q → Going one whole row at stop → Going one whole (after row) q stop
 go_on one whole row at stop q h f e l g = go g.turns g.enough g.same
   where
     go : (n : ℕ) → stop - at ≤ n → whole ≡ step_of (children_at one (suc n) row at stop) → Going one whole (after row) q stop
@@ -138,10 +139,10 @@ go_on one whole row at stop q h f e l g = go g.turns g.enough g.same
           same = s ∙ ap step_of (turn one (suc n) row at stop h f) ∙ rest_next one (suc n) row stop (one (place row) at stop) q e;
         }
 
-pub go_bad : (one : ℕ → ℕ → ℕ → Read Tree) (whole : Step) (row at stop m q : ℕ) → at < stop → ¬ (row ≡ 0)
-    → step_of (one (place row) at stop) ≡ Fault m q → Going one whole row at stop → whole ≡ Fault m q
-go_bad one whole row at stop m q h f e g =
-    g.same ∙ ap step_of (turn one g.turns row at stop h f) ∙ rest_bad one g.turns row stop (one (place row) at stop) m q e
+pub go_bad : (one : ℕ → ℕ → ℕ → Read Tree) (whole : Answer ℕ) (row at stop : ℕ) (x : Refusal) → at < stop → ¬ (row ≡ 0)
+    → step_of (one (place row) at stop) ≡ refused x → Going one whole row at stop → whole ≡ refused x
+go_bad one whole row at stop x h f e g =
+    g.same ∙ ap step_of (turn one g.turns row at stop h f) ∙ rest_bad one g.turns row stop (one (place row) at stop) x e
 
 -- ---- where a reading stops
 abbrev pub EndsAt : {A : Type 0} → ℕ → Read A → Type 0
@@ -171,36 +172,36 @@ children_end one (suc n) row at stop =
     (λ t next. map_ends stop (children_at one n (after row) next stop) t (children_end one n (after row) next stop))))
     (cond_ends stop (complete row) (got nil stop) (bad 4 at) refl tt)
 
-pub record_steps : (s b : List ℕ) (v left p at end f st row : ℕ) → Opens s b v left p at end f st row
-    → step_of (record_at s b v left p at end) ≡ step_of (children_at (child_at s b v (left - 1)) (suc (length b)) row f st)
-record_steps s b v zero p at end f st row o = absurd (o.held.more refl)
-record_steps s b v (suc left) p at end f st row o =
+pub record_steps : (s b : List ℕ) (v left p at end : ℕ) (i : declared.Opened) → Opens s b v left p at end i
+    → step_of (record_at s b v left p at end) ≡ step_of (children_at (child_at s b v (left - 1)) (suc (length b)) i.row i.first i.stop)
+record_steps s b v zero p at end i o = absurd (o.held.more refl)
+record_steps s b v (suc left) p at end i o =
     rw (sub-one, o.first, o.stop, o.rows)
     (ap step_of (record_opens s b v left p at end o.held) ∙ keeps (node (head_at b at)) (within s b v left p at))
 
 -- a record that was read takes a byte or more and ends in its parent
-pub record_within : (s b : List ℕ) (v left p at end q : ℕ) → step_of (record_at s b v left p at end) ≡ Next q → (at < q) × (q ≤ end)
+pub record_within : (s b : List ℕ) (v left p at end q : ℕ) → step_of (record_at s b v left p at end) ≡ accepted q → (at < q) × (q ≤ end)
 record_within s b v left p at end q e = go (opens s b v left p at end) refl
   where
-    taken : (d : ℕ) → Opened s b v d p at end → step_of (record_at s b v d p at end) ≡ Next q → (at < q) × (q ≤ end)
+    taken : (d : ℕ) → Opened s b v d p at end → step_of (record_at s b v d p at end) ≡ accepted q → (at < q) × (q ≤ end)
     taken zero o n = absurd (o.more refl)
     taken (suc d) o n = there (within s b v d p at) (children_end _ _ _ _ _) (ap step_of (sym (record_opens s b v d p at end o)) ∙ n)
       where
-        there : (r : Read Trees) → EndsAt (stop_at b at) r → step_of (bind r (λ ts next. got (node (head_at b at) ts) next)) ≡ Next q → (at < q) × (q ≤ end)
+        there : (r : Read Trees) → EndsAt (stop_at b at) r → step_of (bind r (λ ts next. got (node (head_at b at) ts) next)) ≡ accepted q → (at < q) × (q ≤ end)
         there (got ts k) f e = let same : k ≡ q = cc in omega (arith, f, o.right.long, o.right.within)
         there (bad m k) f e = let z : ◌≡◌ {A = ℕ} 0 1 = cc in absurd (omega arith)
 
     go : (r : Read Head) → opens s b v left p at end ≡ r → (at < q) × (q ≤ end)
     go (bad m k) o =
-        let n : Fault m k ≡ Next q = ap step_of (sym (record_bad s b v left p at end m k o)) ∙ e in
+        let n : refused (record { number = m; place = k }) ≡ accepted q = ap step_of (sym (record_bad s b v left p at end m k o)) ∙ e in
         let z : ◌≡◌ {A = ℕ} 0 1 = cc in
         absurd (omega arith)
     go (got h k) o = taken left (opened s b v left p at end h k o).0 e
 
-pub child_within : (s b : List ℕ) (v left p at end q : ℕ) → step_of (child_at s b v left p at end) ≡ Next q → (at < q) × (q ≤ end)
+pub child_within : (s b : List ℕ) (v left p at end q : ℕ) → step_of (child_at s b v left p at end) ≡ accepted q → (at < q) × (q ≤ end)
 child_within s b v left p at end q e = go (skips b p at end) refl e
   where
-    go : (t : Bool) → skips b p at end ≡ t → step_of (cond t (got absent (at + 4)) (record_at s b v left (bare p) at end)) ≡ Next q → (at < q) × (q ≤ end)
+    go : (t : Bool) → skips b p at end ≡ t → step_of (cond t (got absent (at + 4)) (record_at s b v left (bare p) at end)) ≡ accepted q → (at < q) × (q ≤ end)
     go true k e =
         let w = skips_within b p at end k in
         let same : at + 4 ≡ q = cc in

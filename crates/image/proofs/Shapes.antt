@@ -12,7 +12,6 @@ use Rattle.text.specs.Utf8.{well_formed}
 use Rattle.text.specs.Newlines.{is_range}
 use Rattle.laws.proofs.Booleans.{and_left, and_right}
 use Rattle.image.specs.Bytes.{be32, part}
-use Rattle.image.specs.Kinds.{TEXT}
 use Rattle.image.specs.Grammar.{is_list, is_optional, kind_fits_of, payload_fits, first_child, has_byte, top_byte}
 use Rattle.image.specs.Read.{Read, got, bad, Head, head_at, stop_at, kind_at, shape, opens, skips}
 
@@ -37,6 +36,10 @@ shaped b v p at end e =
       kind = and_right (t₁ && t₂) t₃ three;
       payload = and_right (t₁ && t₂ && t₃) t₄ e;
     }
+
+-- so that the bytes before its payload, and itself, are in its parent
+pub shape_room : (b : List ℕ) (v p at end : ℕ) → shape b v p at end ≡ true → (at + 13 ≤ end) × (at + 4 + be32 b at ≤ end)
+shape_room b v p at end e = let w = shaped b v p at end e in (omega (arith, w.long, w.within), w.within)
 
 pub is_shaped : (b : List ℕ) (v p at end : ℕ) → Shaped b v p at end → shape b v p at end ≡ true
 unfolding shape
@@ -101,14 +104,6 @@ kind_range p k l e =
     let t₂ = leb k (p % 128 + p / 128 % 32) in
     let both : t₁ && t₂ ≡ true = simp l at e in
     (leb-true (p % 128) k (and_left t₁ t₂ both), leb-true k (p % 128 + p / 128 % 32) (and_right t₁ t₂ both))
-
--- where only a text may stand, no other kind does
-pub not_text : (k : ℕ) → ¬ (k ≡ TEXT) → kind_fits_of TEXT k ≡ false
-not_text k n = go (kind_fits_of TEXT k) refl
-  where
-    go : (x : Bool) → kind_fits_of TEXT k ≡ x → x ≡ false
-    go false e = refl
-    go true e = let r = kind_range TEXT k refl e in absurd (n (omega (arith, r.0, r.1)))
 
 -- ---- a record that passes the tests
 pub record Opened (s b : List ℕ) (v left p at end : ℕ) : Type 0 where

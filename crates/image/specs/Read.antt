@@ -1,21 +1,17 @@
 -- What a source and an image read as: document 01, "The tree image", and refusals 1 to 7 of "When a call is turned down".
 -- s is the source and b the image. An offset `at` counts from b's first byte.
-use Rattle.std.specs.Prelude.{◌≡◌, List, [], ◌∷◌, Bool, true, false, cond, not, ◌&&◌, ℕ, zero, suc, ◌+◌, ◌*◌, length, get_or, ltb, leb, eqb}
-use Rattle.std.proofs.Math.Option.{Option, none, some}
+use Rattle.std.specs.Prelude.{◌≡◌, List, [], ◌∷◌, Bool, true, false, cond, not, ◌&&◌, ℕ, zero, suc, ◌+◌, ◌*◌, length, get_or, ltb, leb, eqb, Option, None, Some, Result}
 use Rattle.refusals.specs.Refusals.{Refusal, is_one_of}
 use Rattle.refusals.specs.Answers.{Answer, refused, accepted}
+use Rattle.refusals.specs.Reasons.{answer_of}
+use Rattle.refusals.specs.declared.Refused.{Refused}
 use Rattle.text.specs.Utf8.{prefix, well_formed}
 use Rattle.text.specs.Newlines.{is_range}
 use Rattle.image.specs.Bytes.{be16, be32}
 use Rattle.image.specs.Limits.{MAX_SOURCE, MAX_BODY, MAX_COMMENTS, MAX_RECORDS_DEEP}
 use Rattle.image.specs.Grammar.{is_optional, bare, place, after, complete, row_under_of, kind_fits_of, payload_fits, first_child}
-use Rattle.image.specs.declared.records.Open.{Open}
-use Rattle.image.specs.declared.records.Open.TheVariants.{Record, Wrong}
-use Rattle.image.specs.declared.records.Step.{Step}
-use Rattle.image.specs.declared.records.Step.TheVariants.{Next, Fault}
+use Rattle.image.specs.declared.records.Opened.{Opened}
 use Rattle.image.specs.declared.Document.{Document}
-use Rattle.image.specs.declared.Answer.{Answer as Checked}
-use Rattle.image.specs.declared.Answer.TheVariants.{Accepted, Refused}
 
 -- ---- what is read
 -- a record: its offset, kind and span, where its payload ends and where it ends
@@ -182,21 +178,16 @@ outcome (bad n p) = refused (record { number = n; place = p })
 
 -- the refusal of what was read, an image or another thing
 abbrev pub read_refusal : {A : Type 0} → Read A → Option Refusal
-read_refusal (got a end) = none
-read_refusal (bad n p) = some (record { number = n; place = p })
-
--- what the code answers, case by case
-abbrev pub checked_answer : Checked → Answer Document
-checked_answer (Accepted d) = accepted d
-checked_answer (Refused n p) = refused (record { number = n; place = p })
+read_refusal (got a end) = None
+read_refusal (bad n p) = Some (record { number = n; place = p })
 
 -- source and image are accepted, with so many comments and the tree there
 pub record Accepts (s b : List ℕ) (d : Document) : Type 0 where
   pub answer : outcome (read_all s b) ≡ accepted d
 
 -- what `check` promises of its answer
-abbrev pub Checks : List ℕ → List ℕ → Checked → Type 0
-Checks s b r = checked_answer r ≡ outcome (read_all s b)
+abbrev pub Checks : List ℕ → List ℕ → Result Document Refused → Type 0
+Checks s b r = answer_of (λ d. d) r ≡ outcome (read_all s b)
 
 -- the numbers under which the reader refuses, in the table's order; proofs/Numbers.antt shows that there is no other
 abbrev pub reader_numbers : List ℕ
@@ -206,11 +197,11 @@ abbrev pub ReadNumbers : Type 0
 ReadNumbers = (s b : List ℕ) (n p : ℕ) → read_all s b ≡ bad n p → is_one_of n reader_numbers ≡ true
 
 -- ---- the code's answers to a part
--- what the reading of a part answers, and the reading of one record's head at place p
-abbrev pub step_of : {A : Type 0} → Read A → Step
-step_of (got a n) = Next n
-step_of (bad n p) = Fault n p
+-- where the reading of a part goes on, and what the reading of one record's head at place p gives
+abbrev pub step_of : {A : Type 0} → Read A → Answer ℕ
+step_of (got a n) = accepted n
+step_of (bad n p) = refused (record { number = n; place = p })
 
-abbrev pub open_of : ℕ → Read Head → Open
-open_of p (got h first) = Record first h.stop (row_under_of p h.kind)
-open_of p (bad n q) = Wrong n q
+abbrev pub open_of : ℕ → Read Head → Answer Opened
+open_of p (got h first) = accepted (record { first = first; stop = h.stop; row = row_under_of p h.kind })
+open_of p (bad n q) = refused (record { number = n; place = q })

@@ -1,25 +1,25 @@
 // Numbers of an image, big-endian.
+// kept: as sums. By `from_be_bytes` of an array of the bytes layout takes 8 parts in a hundred longer.
 ghost use Rattle.std.specs.Prelude.{◌≡◌, ◌+◌, ◌≤◌, ◌<◌, length};
 ghost use Rattle.image.specs.Bytes.{Is16, Is32};
 
-pub fn wide(x: u8) -> usize
-    ensures { (result ≡ x) × (result < 256) }
-{
-    x as usize
-}
-
 // The number in the two bytes at `at`.
+#[tactic(auto, unfolding(crate::specs::Bytes::be16))]
 pub fn num16(b: &[u8], at: usize) -> usize
     requires { at + 2 ≤ length b.now }
     ensures { Is16 b.now at result }
 {
-    wide(b[at]) * 256 + wide(b[at + 1])
+    usize::from(b[at]) * 256 + usize::from(b[at + 1])
 }
 
 // The number in the four bytes at `at`.
+#[tactic(auto, unfolding(crate::specs::Bytes::be32))]
 pub fn num32(b: &[u8], at: usize) -> usize
     requires { at + 4 ≤ length b.now }
     ensures { Is32 b.now at result }
 {
-    wide(b[at]) * 16777216 + wide(b[at + 1]) * 65536 + wide(b[at + 2]) * 256 + wide(b[at + 3])
+    usize::from(b[at]) * 16777216
+        + usize::from(b[at + 1]) * 65536
+        + usize::from(b[at + 2]) * 256
+        + usize::from(b[at + 3])
 }

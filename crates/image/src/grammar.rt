@@ -1,11 +1,10 @@
 // Which payload and which children a record has, kind by kind. A place is a number: the lowest kind allowed, 128 times the number of
 // kinds above it that are allowed too, and marks. A row is a record's places in order, 65536 apart.
-ghost use Rattle.std.specs.Prelude.{◌≡◌, ◌+◌, ◌≤◌, ◌<◌, ◌^◌, length};
+ghost use Rattle.std.specs.Prelude.{◌≡◌, ◌+◌, ◌/◌, ◌%◌, ◌≤◌, ◌<◌, ◌^◌, eqb, length};
 ghost use Rattle.text.specs.Utf8.{well_formed};
 ghost use Rattle.image.specs.Bytes.{part};
-ghost use Rattle.image.specs.Grammar.{row_of, row_under_of, kind_fits_of, has_byte, top_byte, payload_fits, first_child, after, complete};
+ghost use Rattle.image.specs.Grammar.{row_of, row_under_of, kind_fits_of, has_byte, top_byte, payload_fits, first_child, is_optional, bare, place, after, complete};
 
-use crate::bytes::wide;
 use crate::kinds::{
     ACCESS, ARM, ASSIGN, BIN_OP, BLOCK, BLOCK_EXPR, COMPOUND_ASSIGN, CONST, ENUM, ENUM_VARIANT,
     EXPR_PART, EXPR_STMT, F_STRING, FIELD, FILTER_MAP, FOR, FUNCTION, FUNCTION_CALL, IF_ELSE,
@@ -14,13 +13,15 @@ use crate::kinds::{
     RECORD_FIELDS, RECORD_TYPE, RETURN, TEST, TEXT, TEXT_PART, TREE, TYPE_PATH, TYPED_RECORD,
     UNDERSCORE, VARIANT, WHILE,
 };
-use text::utf8::Checked;
 
 const B: usize = 65536;
 
 const C: usize = B * B;
 
 const D: usize = C * B;
+
+// How many bytes a text's width has.
+pub(crate) const WIDTH: usize = 2;
 
 // a list of such
 const LIST_OF: usize = 4096;
@@ -112,6 +113,7 @@ const ARM_ROW: usize = PATTERNS + B * (MAY + EXPRS) + C * EXPRS;
 const ENUM_VARIANT_ROW: usize = TEXT + B * (MAY + LIST_OF + TEXT);
 
 // The row of a kind below 50.
+#[tactic(auto, unfolding(crate::specs::Grammar::row_of))]
 fn low_row(k: usize) -> usize
     requires { k < 50 }
     ensures { result ≡ row_of k }
@@ -141,6 +143,7 @@ fn low_row(k: usize) -> usize
 }
 
 // The row of an expression's kind, or of a part of one.
+#[tactic(auto, unfolding(crate::specs::Grammar::row_of))]
 fn high_row(k: usize) -> usize
     requires { 50 ≤ k }
     ensures { result ≡ row_of k }
@@ -178,125 +181,126 @@ fn high_row(k: usize) -> usize
 fn row_of(k: usize) -> usize
     ensures { result ≡ row_of k }
 {
-    if k < 50 {
-        return low_row(k);
-    }
-    high_row(k)
+    if k < 50 { low_row(k) } else { high_row(k) }
+}
+
+// Whether a place has a mark.
+fn has_mark(p: usize, mark: usize) -> bool
+    requires { 0 < mark }
+    ensures { result ≡ eqb (p / mark % 2) 1 }
+{
+    p / mark % 2 == 1
 }
 
 // The row of a record of kind k at place p.
+#[tactic(auto, unfolding(crate::specs::Grammar::row_under_of))]
 pub fn row_under(p: usize, k: usize) -> usize
     ensures { result ≡ row_under_of p k }
 {
-    if p / LIST_OF % 2 == 1 {
-        return MANY + p % LIST_OF;
+    if has_mark(p, LIST_OF) {
+        MANY + p % LIST_OF
+    } else {
+        row_of(k)
     }
-    row_of(k)
 }
 
 // The row that is left when a child has been read at the first place.
 pub fn after_row(row: usize) -> usize
     ensures { result ≡ after row }
 {
-    if row / MANY % 2 == 1 {
-        return row;
-    }
-    row / B
+    if has_mark(row, MANY) { row } else { row / B }
 }
 
 // Whether no child is due any more.
 pub fn is_over(row: usize) -> bool
     ensures { result ≡ complete row }
 {
-    if row == 0 {
-        return true;
-    }
-    row / MANY % 2 == 1
+    row == 0 || has_mark(row, MANY)
+}
+
+// Whether no record need stand at place p.
+pub fn is_optional(p: usize) -> bool
+    ensures { result ≡ is_optional p }
+{
+    has_mark(p, MAY)
+}
+
+// The first place of a row, and a place without its marks `?` and `*`.
+pub fn place(row: usize) -> usize
+    ensures { result ≡ place row }
+{
+    row % B
+}
+
+pub fn bare(p: usize) -> usize
+    ensures { result ≡ bare p }
+{
+    p % MAY
 }
 
 // Whether kind k is right at place p.
+#[tactic(auto, unfolding(crate::specs::Grammar::kind_fits_of))]
 pub fn kind_fits(p: usize, k: usize) -> bool
     ensures { result ≡ kind_fits_of p k }
 {
-    if p / LIST_OF % 2 == 1 {
+    if has_mark(p, LIST_OF) {
         return k == LIST;
     }
-    if k < p % 128 {
-        return false;
-    }
-    k <= p % 128 + p / 128 % 32
+    p % 128 <= k && k <= p % 128 + p / 128 % 32
 }
 
 // Whether a kind has a payload byte: return, operator, literal.
 pub fn has_byte(k: usize) -> bool
     ensures { result ≡ has_byte k }
 {
-    if k == RETURN {
-        return true;
-    }
-    if k == OPERATOR {
-        return true;
-    }
-    k == LITERAL
+    k == RETURN || k == OPERATOR || k == LITERAL
 }
 
 // The largest payload byte of such a kind at place p.
 pub fn top_byte(p: usize, k: usize) -> usize
     ensures { result ≡ top_byte p k }
 {
-    if k == RETURN {
-        return 2;
+    match k {
+        RETURN => 2,
+        LITERAL => 3,
+        _ if has_mark(p, UNDER_ASSIGN) => 4,
+        _ => 13,
     }
-    if k == LITERAL {
-        return 3;
-    }
-    if p / UNDER_ASSIGN % 2 == 1 {
-        return 4;
-    }
-    13
 }
 
 // Whether the bytes from `from` to `to` are well-formed UTF-8.
-pub fn is_text(b: &[u8], from: usize, to: usize) -> bool
-    requires { (from ≤ to) × (to ≤ length b.now) }
-    ensures { result ≡ well_formed (part from to b.now) }
+#[tactic(auto, using(crate::proofs::Texts::checked_ok))]
+pub fn is_text(image: &[u8], from: usize, to: usize) -> bool
+    requires { (from ≤ to) × (to ≤ length image.now) }
+    ensures { result ≡ well_formed (part from to image.now) }
 {
-    match text::utf8::check(&b[from..to]) {
-        Checked::WellFormed => true,
-        Checked::Bad(_) => false,
-    }
+    text::utf8::check(&image[from..to]).is_ok()
 }
 
-// Whether what follows the span, from `from` to `stop`, starts with a payload right for kind k at place p. A text's width has v bytes.
-pub(crate) fn payload_fits(b: &[u8], v: usize, p: usize, k: usize, from: usize, stop: usize) -> bool
-    requires { (from ≤ stop) × (stop ≤ length b.now) }
-    ensures { result ≡ payload_fits b.now v p k from stop }
+// Whether what follows the span, from `from` to `stop`, starts with a payload right for kind k at place p.
+#[tactic(auto, unfolding(crate::specs::Grammar::payload_fits))]
+pub(crate) fn payload_fits(image: &[u8], p: usize, k: usize, from: usize, stop: usize) -> bool
+    requires { (from ≤ stop) × (stop ≤ length image.now) }
+    ensures { result ≡ payload_fits image.now 2 p k from stop }
 {
     if k == TEXT {
-        if stop - from < v {
-            return false;
-        }
-        return is_text(b, from + v, stop);
+        return WIDTH <= stop - from && is_text(image, from + WIDTH, stop);
     }
     if has_byte(k) {
-        if stop <= from {
-            return false;
-        }
-        return wide(b[from]) <= top_byte(p, k);
+        return from < stop && usize::from(image[from]) <= top_byte(p, k);
     }
     true
 }
 
 // Where the payload ends and the children start.
+#[tactic(auto, unfolding(crate::specs::Grammar::first_child))]
 pub fn first_child(k: usize, from: usize, stop: usize) -> usize
     requires { from + 1 < 2 ^ 64 }
     ensures { result ≡ first_child k from stop }
 {
-    if k == TEXT {
-        return stop;
+    match k {
+        TEXT => stop,
+        _ if has_byte(k) => from + 1,
+        _ => from,
     }
-    if has_byte(k) {
-        return from + 1;
-    }
-    from
 }

@@ -8,93 +8,78 @@ pub mod kinds;
 pub mod limits;
 mod records;
 
-ghost use Rattle.std.specs.Prelude.{◌≡◌, ◌≤◌, length};
-ghost use Rattle.image.specs.Read.{source_fits, header, read_tree, read_image, outcome, checked_answer, Checks};
+ghost use Rattle.std.specs.Prelude.{◌≡◌, false, ◌≤◌, length};
+ghost use Rattle.image.specs.Read.{source_fits, header, read_tree, read_image, outcome, Checks};
+ghost use Rattle.refusals.specs.Reasons.{answer_of};
 
-use bytes::{num16, num32, wide};
+use bytes::{num16, num32};
 use comments::read_comments;
+use kinds::TREE;
 use limits::{MAX_BODY, MAX_RECORDS_DEEP, MAX_SOURCE};
-use records::{Step, read_record};
-use text::utf8::Checked;
+use records::Reading;
+use refusals::{Reason, Refused};
 
 // A source and an image that are accepted: how many comments there are, and where the tree stands.
-#[derive(Clone, Copy)]
+#[derive(Clone, Copy, Debug, PartialEq, Eq)]
 pub struct Document {
     pub comments: usize,
     pub tree: usize,
 }
 
-#[derive(Drop)]
-pub enum Answer {
-    Accepted(Document),
-    // the number and the place
-    Refused(u8, usize),
-}
-
 // Whether the source is no longer than 65,536 bytes: refusal 1 where it is.
-pub fn source_fits(s: &[u8]) -> bool
-    ensures { result ≡ source_fits s.now }
+#[tactic(auto, unfolding(crate::specs::Read::source_fits))]
+pub fn source_fits(source: &[u8]) -> bool
+    ensures { result ≡ source_fits source.now }
 {
-    s.len() <= MAX_SOURCE
+    source.len() <= MAX_SOURCE
 }
 
 // Whether the image has a header that is right: refusal 3 where it hasn't.
-pub fn header_fits(b: &[u8]) -> bool
-    ensures { result ≡ header b.now }
+#[tactic(auto, unfolding(crate::specs::Read::header))]
+pub fn header_fits(image: &[u8]) -> bool
+    ensures { result ≡ header image.now }
 {
-    if b.len() < 5 {
+    if image.len() < 5 || image[0] != 1 {
         return false;
     }
-    if wide(b[0]) != 1 {
-        return false;
-    }
-    let n = num32(b, 1);
-    if 5 + n != b.len() {
-        return false;
-    }
-    n <= MAX_BODY
+    let n = num32(image, 1);
+    5 + n == image.len() && n <= MAX_BODY
 }
 
-fn read_tree(s: &[u8], b: &[u8], v: usize, at: usize) -> Answer
-    requires { (7 ≤ at) × (at ≤ length b.now) }
-    ensures { checked_answer result ≡ outcome (read_tree s.now b.now v at) }
+fn read_tree(source: &[u8], image: &[u8], at: usize) -> Result<Document, Refused>
+    requires { (7 ≤ at) × (at ≤ length image.now) }
+    ensures { answer_of (λ d. d) result ≡ outcome (read_tree source.now image.now 2 at) }
 {
-    match read_record(s, b, v, MAX_RECORDS_DEEP, 1, at, b.len()) {
-        Step::Fault(n, q) => Answer::Refused(n, q),
-        Step::Next(next) => {
-            if next < b.len() {
-                return Answer::Refused(4, next);
-            }
-            let doc = Document {
-                comments: num16(b, 5),
-                tree: at,
-            };
-            Answer::Accepted(doc)
-        }
+    let reading = Reading { source, image };
+    let next = reading.read_record(MAX_RECORDS_DEEP, TREE, at, image.len())?;
+    if next < image.len() {
+        return Err(Reason::Record.at(next));
     }
+    Ok(Document {
+        comments: num16(image, 5),
+        tree: at,
+    })
 }
 
-fn read_image(s: &[u8], b: &[u8], ordered: bool) -> Answer
-    ensures { checked_answer result ≡ outcome (read_image ordered s.now b.now) }
+#[tactic(auto, unfolding(crate::specs::Read::read_image))]
+fn read_image(source: &[u8], image: &[u8]) -> Result<Document, Refused>
+    ensures { answer_of (λ d. d) result ≡ outcome (read_image false source.now image.now) }
 {
-    if !header_fits(b) {
-        return Answer::Refused(3, 0);
+    if !header_fits(image) {
+        return Err(Reason::Header.at(0));
     }
-    match read_comments(s, b, ordered) {
-        Step::Fault(n, q) => Answer::Refused(n, q),
-        Step::Next(at) => read_tree(s, b, 2, at),
-    }
+    let at = read_comments(source, image)?;
+    read_tree(source, image, at)
 }
 
 // Accepts a source and an image, or refuses them.
-pub fn check(source: &[u8], image: &[u8]) -> Answer
+#[tactic(auto, unfolding(crate::specs::Read::read_all))]
+pub fn check(source: &[u8], image: &[u8]) -> Result<Document, Refused>
     ensures { Checks source.now image.now result }
 {
     if !source_fits(source) {
-        return Answer::Refused(1, 0);
+        return Err(Reason::SourceTooLong.at(0));
     }
-    match text::utf8::check(source) {
-        Checked::Bad(at) => Answer::Refused(2, at),
-        Checked::WellFormed => read_image(source, image, false),
-    }
+    text::utf8::check(source)?;
+    read_image(source, image)
 }

@@ -13,9 +13,8 @@ pub fn read_full<R: Read>(input: &mut R, buf: &mut [u8]) -> usize
     let mut done = 0;
     while done < buf.len() {
         match input.read(&mut buf[done..]) {
-            Ok(0) => break,
+            Ok(0) | Err(_) => break,
             Ok(n) => done += n,
-            Err(_) => break,
         }
     }
     done

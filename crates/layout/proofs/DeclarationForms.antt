@@ -3,7 +3,7 @@
 use mathlib.Core.Path.{◌≡◌, refl, sym, subst, ◌∙◌}
 use mathlib.Core.Bool.{Bool, true, false}
 use mathlib.Core.List.{List, [], ◌∷◌}
-use mathlib.Core.Option.{Option, none, some}
+use Rattle.std.specs.Prelude.{Option, None, Some}
 use Prim.Native.Nat.{ℕ, ◌+◌, ◌-◌, ◌≤◌, ◌<◌}
 use native.Mathlib.Omega.{arith}
 use lib.ListN.{length}
@@ -108,8 +108,8 @@ module _ {s b : List ℕ} {at : ℕ} {X : Type 0} (mk : X → Declaration) (f : 
 -- ---- optional parts
 pub params_whole : (s b : List ℕ) (at : ℕ) → (be32 b at ≡ 0 → ⊥) → (m : Option Idents) → MaybeListAt s b m at → Whole b at
 unfolding Maybe
-params_whole s b at f none a = absurd (f a.zero)
-params_whole s b at f (some is) a = head_whole a.head
+params_whole s b at f None a = absurd (f a.zero)
+params_whole s b at f (Some is) a = head_whole a.head
 
 module _ {s b : List ℕ} {at : ℕ} where
   pub params_has : {c : Cursor} → (be32 b at ≡ 0 → ⊥) → (at + 13 ≡ stop_at b at → ⊥) → Has MaybeListAt some_type_params s b at c
@@ -122,8 +122,8 @@ module _ {s b : List ℕ} {at : ℕ} where
       inner (i ∷ is) w a room = room
 
       go : (m : Option Idents) → MaybeListAt s b m at → Room (some_type_params (given s b) m) c → Has ListAt type_params_rule s b at c
-      go none a room = absurd (f a.zero)
-      go (some is) a room =
+      go None a room = absurd (f a.zero)
+      go (Some is) a room =
           record { accepted = h.accepted; tree = is; held = a; room = inner is.elems (type_params_rule (given s b) is) a.elems room }
 
   pub no_params : {x : List ℕ} {c : Cursor} → be32 b at ≡ 0 → LaysAs MaybeListAt some_type_params s b at x c x c
@@ -131,8 +131,8 @@ module _ {s b : List ℕ} {at : ℕ} where
   no_params {x} {c} e = record { of = go }
     where
       go : (m : Option Idents) → MaybeListAt s b m at → Lays (some_type_params (given s b) m) x c x c
-      go none a = lays_skip
-      go (some is) a = absurd (omega (arith, e, a.head.long))
+      go None a = lays_skip
+      go (Some is) a = absurd (omega (arith, e, a.head.long))
 
   pub empty_params : {x : List ℕ} {c : Cursor} → at + 13 ≡ stop_at b at → LaysAs MaybeListAt some_type_params s b at x c x c
   unfolding Maybe IdentsAt
@@ -143,8 +143,8 @@ module _ {s b : List ℕ} {at : ℕ} where
       inner (i ∷ is) w a = absurd (omega (arith, e, a.0.head.long, a.1.least))
 
       go : (m : Option Idents) → MaybeListAt s b m at → Lays (some_type_params (given s b) m) x c x c
-      go none a = lays_skip
-      go (some is) a = inner is.elems (type_params_rule (given s b) is) a.elems
+      go None a = lays_skip
+      go (Some is) a = inner is.elems (type_params_rule (given s b) is) a.elems
 
   pub some_params : {x y : List ℕ} {c d : Cursor} → (be32 b at ≡ 0 → ⊥) → (at + 13 ≡ stop_at b at → ⊥)
       → LaysAs ListAt type_params_rule s b at x c y d → LaysAs MaybeListAt some_type_params s b at x c y d
@@ -156,8 +156,8 @@ module _ {s b : List ℕ} {at : ℕ} where
       inner (i ∷ is) w a m = m
 
       go : (m : Option Idents) → MaybeListAt s b m at → Lays (some_type_params (given s b) m) x c y d
-      go none a = absurd (f a.zero)
-      go (some is) a = inner is.elems (type_params_rule (given s b) is) a.elems (l.of is a)
+      go None a = absurd (f a.zero)
+      go (Some is) a = inner is.elems (type_params_rule (given s b) is) a.elems (l.of is a)
 
   pub return_has : {c : Cursor} → (be32 b at ≡ 0 → ⊥) → Has MaybeTypeAt return_type s b at c
       → Has TypeAt (λ g t. says "-> " ⨟ type_expr g t ⨟ says " ") s b at c
@@ -166,16 +166,16 @@ module _ {s b : List ℕ} {at : ℕ} where
     where
       go : (m : Option TypeExpr) → MaybeTypeAt s b m at → Room (return_type (given s b) m) c
           → Has TypeAt (λ g t. says "-> " ⨟ type_expr g t ⨟ says " ") s b at c
-      go none a room = absurd (f a.zero)
-      go (some t) a room = record { accepted = h.accepted; tree = t; held = a; room = room }
+      go None a room = absurd (f a.zero)
+      go (Some t) a room = record { accepted = h.accepted; tree = t; held = a; room = room }
 
   pub no_return : {x : List ℕ} {c : Cursor} → be32 b at ≡ 0 → LaysAs MaybeTypeAt return_type s b at x c x c
   unfolding Maybe
   no_return {x} {c} e = record { of = go }
     where
       go : (m : Option TypeExpr) → MaybeTypeAt s b m at → Lays (return_type (given s b) m) x c x c
-      go none a = lays_skip
-      go (some t) a = absurd (omega (arith, e, (type_whole s b at t a).long))
+      go None a = lays_skip
+      go (Some t) a = absurd (omega (arith, e, (type_whole s b at t a).long))
 
   pub some_return : {x y z w : List ℕ} {c d e f : Cursor} → (be32 b at ≡ 0 → ⊥) → Lays (says "-> ") x c y d → LaysAs TypeAt type_expr s b at y d z e
       → Lays (says " ") z e w f → LaysAs MaybeTypeAt return_type s b at x c w f
@@ -183,20 +183,20 @@ module _ {s b : List ℕ} {at : ℕ} where
   some_return {x} {y} {z} {w} {c} {d} {e} {f} g l m n = record { of = go }
     where
       go : (q : Option TypeExpr) → MaybeTypeAt s b q at → Lays (return_type (given s b) q) x c w f
-      go none a = absurd (g a.zero)
-      go (some t) a = lays_then l (lays_then (m.of t a) n)
+      go None a = absurd (g a.zero)
+      go (Some t) a = lays_then l (lays_then (m.of t a) n)
 
-  pub has_ident : {c : Cursor} → (be32 b at ≡ 0 → ⊥) → Has MaybeIdentAt shebang_rule s b at c → Has IdentAt (λ g i. shebang_rule g (some i)) s b at c
+  pub has_ident : {c : Cursor} → (be32 b at ≡ 0 → ⊥) → Has MaybeIdentAt shebang_rule s b at c → Has IdentAt (λ g i. shebang_rule g (Some i)) s b at c
   unfolding Maybe
   has_ident {c} f h = go h.tree h.held h.room
     where
-      go : (m : Option Ident) → MaybeIdentAt s b m at → Room (shebang_rule (given s b) m) c → Has IdentAt (λ g i. shebang_rule g (some i)) s b at c
-      go none a room = absurd (f a.zero)
-      go (some i) a room = record { accepted = h.accepted; tree = i; held = a; room = room }
+      go : (m : Option Ident) → MaybeIdentAt s b m at → Room (shebang_rule (given s b) m) c → Has IdentAt (λ g i. shebang_rule g (Some i)) s b at c
+      go None a room = absurd (f a.zero)
+      go (Some i) a room = record { accepted = h.accepted; tree = i; held = a; room = room }
 
   -- the rows of a shebang by the numbers of its record
   pub shebang_same : {w f n : ℕ} {i : Ident} → IdentAt s b i at → w ≡ be16 b (at + 13) → f ≡ at + 15 → n ≡ trim_end b f (stop_at b at) - f
-      → (push (str w (text 1 f n)) ⨟ push empty_line) ≡ shebang_rule (given s b) (some i)
+      → (push (str w (text 1 f n)) ⨟ push empty_line) ≡ shebang_rule (given s b) (Some i)
   unfolding shebang_rule
   shebang_same {w} {f} {n} {i} a p q r =
       let h : f ≡ i.start = q ∙ a.starts in
@@ -209,8 +209,8 @@ module _ {s b : List ℕ} {at : ℕ} where
   no_shebang {x} {c} e = record { of = go }
     where
       go : (m : Option Ident) → MaybeIdentAt s b m at → Lays (shebang_rule (given s b) m) x c x c
-      go none a = lays_skip
-      go (some i) a = absurd (omega (arith, e, a.head.long))
+      go None a = lays_skip
+      go (Some i) a = absurd (omega (arith, e, a.head.long))
 
   pub some_shebang : {w f n : ℕ} {x y z : List ℕ} {c d e : Cursor} → (be32 b at ≡ 0 → ⊥) → w ≡ be16 b (at + 13) → f ≡ at + 15
       → n ≡ trim_end b f (stop_at b at) - f → Lays (push (str w (text 1 f n))) x c y d → Lays (push empty_line) y d z e
@@ -219,8 +219,8 @@ module _ {s b : List ℕ} {at : ℕ} where
   some_shebang {w} {f} {n} {x} {y} {z} {c} {d} {e} g p q r l m = record { of = go }
     where
       go : (i : Option Ident) → MaybeIdentAt s b i at → Lays (shebang_rule (given s b) i) x c z e
-      go none a = absurd (g a.zero)
-      go (some i) a = subst (λ (v : Act). Lays v x c z e) (shebang_same a p q r) (lays_then l m)
+      go None a = absurd (g a.zero)
+      go (Some i) a = subst (λ (v : Act). Lays v x c z e) (shebang_same a p q r) (lays_then l m)
 
 -- ---- declarations one after the other
 pub record MoreDeclarations (first : Bool) (s b : List ℕ) (p to : ℕ) (c : Cursor) : Type 0 where

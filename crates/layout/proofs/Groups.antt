@@ -3,7 +3,7 @@
 use mathlib.Core.Path.{◌≡◌, refl, sym, subst, ◌∙◌}
 use mathlib.Core.Bool.{Bool, true, false, not, ◌&&◌}
 use mathlib.Core.List.{List, []}
-use mathlib.Core.Option.{Option, none, some}
+use Rattle.std.specs.Prelude.{Option, None, Some}
 use Prim.Native.Nat.{ℕ, ◌+◌}
 use native.Mathlib.Omega.{arith}
 use lib.Dec.{eqb}
@@ -30,8 +30,8 @@ use Rattle.layout.proofs.Lays.{LaysAs, LaysList}
 module _ (s b : List ℕ) (at : ℕ) where
   pub is_some_lem : (q : Option Path) → Maybe s b (PathAt s b) q at → not (eqb (be32 b at) 0) ≡ is_some q
   unfolding Maybe
-  is_some_lem none a = rw (eq-eqb _ _ a.zero)
-  is_some_lem (some p) a = rw (ne_eqb (be32 b at) 0 (λ e. omega (arith, a.head.head.long)))
+  is_some_lem None a = rw (eq-eqb _ _ a.zero)
+  is_some_lem (Some p) a = rw (ne_eqb (be32 b at) 0 (λ e. omega (arith, a.head.head.long)))
 
   pub is_group_lem : (g : ImportGroup) → ImportGroupAt s b g at → not (eqb (be32 b at) 0) ≡ is_group g
   unfolding ImportGroupAt
@@ -44,8 +44,8 @@ module _ {s b : List ℕ} {at : ℕ} where
   has_path {c} f h = go h.tree h.held h.room
     where
       go : (q : Option Path) → Maybe s b (PathAt s b) q at → Room (import_first (given s b) q) c → Has PathAt (λ g p. path_rule g p true false) s b at c
-      go none a room = absurd (f a.zero)
-      go (some p) a room = record { accepted = h.accepted; tree = p; held = a; room = room }
+      go None a room = absurd (f a.zero)
+      go (Some p) a room = record { accepted = h.accepted; tree = p; held = a; room = room }
 
   module _ {x : List ℕ} {c : Cursor} where
     pub no_path : be32 b at ≡ 0 → LaysAs MaybePathAt import_first s b at x c x c
@@ -53,8 +53,8 @@ module _ {s b : List ℕ} {at : ℕ} where
     no_path e = record { of = go }
       where
         go : (q : Option Path) → Maybe s b (PathAt s b) q at → Lays (import_first (given s b) q) x c x c
-        go none a = lays_skip
-        go (some p) a = absurd (omega (arith, e, a.head.head.long))
+        go None a = lays_skip
+        go (Some p) a = absurd (omega (arith, e, a.head.head.long))
 
     pub no_group_lem : be32 b at ≡ 0 → LaysAs ImportGroupAt import_group s b at x c x c
     unfolding ImportGroupAt import_group
@@ -71,8 +71,8 @@ module _ {s b : List ℕ} {at : ℕ} where
     some_path f l = record { of = go }
       where
         go : (q : Option Path) → Maybe s b (PathAt s b) q at → Lays (import_first (given s b) q) x c y d
-        go none a = absurd (f a.zero)
-        go (some p) a = l.of p a
+        go None a = absurd (f a.zero)
+        go (Some p) a = l.of p a
 
 -- ---- an import by its parts
 abbrev pub ImportPartsAt : List ℕ → List ℕ → Option Path × ImportGroup → ℕ → Type 0

@@ -1,11 +1,12 @@
 pub mod IdentLaws
 pub mod Lays
+pub mod Listing
 pub mod Places
+pub mod Ranks
 pub mod Groups
 pub mod Lasts
 pub mod Runs
 pub mod TypeForms
-pub mod Symbols
 pub mod ExprForms
 pub mod Operands
 pub mod Optionals

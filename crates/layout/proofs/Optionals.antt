@@ -3,7 +3,7 @@
 use mathlib.Core.Path.{◌≡◌, sym, subst, ◌∙◌}
 use mathlib.Core.Bool.{Bool}
 use mathlib.Core.List.{List}
-use mathlib.Core.Option.{Option, none, some}
+use Rattle.std.specs.Prelude.{Option, None, Some}
 use Prim.Native.Nat.{ℕ, ◌+◌}
 use native.Mathlib.Omega.{arith}
 use Rattle.image.specs.Bytes.{be32}
@@ -19,6 +19,7 @@ use Rattle.comments.specs.Comments.{pop_trailing_comment}
 use Rattle.comments.specs.Listed.{given}
 use Rattle.layout.specs.Layout.{ident, type_expr, ident_elems, let_type, maybe_expr, otherwise, last_rule, before_stmt, block_rule, pattern}
 use Rattle.layout.specs.Promises.{Has, Whole, InImage}
+use Rattle.acts.specs.declared.words.Word.{Word}
 use Rattle.layout.specs.Elems.{IdentElem, HasList}
 use Rattle.layout.specs.Forms.{expr_with, after_word, maybe_after, last_from, MaybeTypeAt}
 use Rattle.layout.proofs.Places.{head_whole, type_whole, expr_whole, block_whole, maybe_list}
@@ -27,7 +28,7 @@ use Rattle.layout.proofs.Lays.{LaysAs, LaysList}
 
 module _ {s b : List ℕ} {at : ℕ} where
   -- ---- an expression
-  pub has_expr : (k : ℕ) {c : Cursor} → (be32 b at ≡ 0 → ⊥) → Has MaybeExprAt (maybe_after k) s b at c → Has ExprAt (after_word k 0) s b at c
+  pub has_expr : (k : Word) {c : Cursor} → (be32 b at ≡ 0 → ⊥) → Has MaybeExprAt (maybe_after k) s b at c → Has ExprAt (after_word k 0) s b at c
   unfolding MaybeExprAt maybe_expr
   has_expr k {c} f h = go h.tree h.held h.room
     where
@@ -35,7 +36,7 @@ module _ {s b : List ℕ} {at : ℕ} where
       go no_expr a room = absurd (f a.zero)
       go (some_expr e) a room = record { accepted = h.accepted; tree = e; held = a; room = room }
 
-  pub no_maybe : (k : ℕ) {x : List ℕ} {c : Cursor} → be32 b at ≡ 0 → LaysAs MaybeExprAt (maybe_after k) s b at x c x c
+  pub no_maybe : (k : Word) {x : List ℕ} {c : Cursor} → be32 b at ≡ 0 → LaysAs MaybeExprAt (maybe_after k) s b at x c x c
   unfolding MaybeExprAt maybe_expr
   no_maybe k {x} {c} e = record { of = go }
     where
@@ -43,7 +44,7 @@ module _ {s b : List ℕ} {at : ℕ} where
       go no_expr a = lays_skip
       go (some_expr i) a = absurd (omega (arith, e, (expr_whole s b at i a).long))
 
-  pub some_maybe : (k : ℕ) {x y : List ℕ} {c d : Cursor} → (be32 b at ≡ 0 → ⊥) → LaysAs ExprAt (after_word k 0) s b at x c y d
+  pub some_maybe : (k : Word) {x y : List ℕ} {c d : Cursor} → (be32 b at ≡ 0 → ⊥) → LaysAs ExprAt (after_word k 0) s b at x c y d
       → LaysAs MaybeExprAt (maybe_after k) s b at x c y d
   unfolding MaybeExprAt maybe_expr
   some_maybe k {x} {y} {c} {d} f l = record { of = go }
@@ -97,16 +98,16 @@ module _ {s b : List ℕ} {at : ℕ} where
   has_type {c} f h = go h.tree h.held h.room
     where
       go : (m : Option TypeExpr) → MaybeTypeAt s b m at → Room (let_type (given s b) m) c → Has TypeAt (λ g t. says ": " ⨟ type_expr g t) s b at c
-      go none a room = absurd (f a.zero)
-      go (some t) a room = record { accepted = h.accepted; tree = t; held = a; room = room }
+      go None a room = absurd (f a.zero)
+      go (Some t) a room = record { accepted = h.accepted; tree = t; held = a; room = room }
 
   pub no_type : {x : List ℕ} {c : Cursor} → be32 b at ≡ 0 → LaysAs MaybeTypeAt let_type s b at x c x c
   unfolding Maybe
   no_type {x} {c} e = record { of = go }
     where
       go : (m : Option TypeExpr) → MaybeTypeAt s b m at → Lays (let_type (given s b) m) x c x c
-      go none a = lays_skip
-      go (some t) a = absurd (omega (arith, e, (type_whole s b at t a).long))
+      go None a = lays_skip
+      go (Some t) a = absurd (omega (arith, e, (type_whole s b at t a).long))
 
   pub some_type : {x y z : List ℕ} {c d e : Cursor} → (be32 b at ≡ 0 → ⊥) → Lays (says ": ") x c y d → LaysAs TypeAt type_expr s b at y d z e
       → LaysAs MaybeTypeAt let_type s b at x c z e
@@ -114,8 +115,8 @@ module _ {s b : List ℕ} {at : ℕ} where
   some_type {x} {y} {z} {c} {d} {e} f w l = record { of = go }
     where
       go : (m : Option TypeExpr) → MaybeTypeAt s b m at → Lays (let_type (given s b) m) x c z e
-      go none a = absurd (f a.zero)
-      go (some t) a = lays_then w (l.of t a)
+      go None a = absurd (f a.zero)
+      go (Some t) a = lays_then w (l.of t a)
 
   -- ---- the block of an `else`
   pub has_block : {c : Cursor} → (be32 b at ≡ 0 → ⊥) → Has MaybeBlockAt otherwise s b at c → Has BlockAt (λ g k. says " else " ⨟ block_rule g k) s b at c
@@ -157,8 +158,8 @@ module _ {s b : List ℕ} {at : ℕ} where
     where
       go : (p : Pattern) → PatternAt s b p at → Room (pattern (given s b) p) c → Room (says "_") c
       go underscore a room = room
-      go (enum_variant i none) a room = absurd (omega (arith, e, a.0.head.kinds))
-      go (enum_variant i (some is)) a room = absurd (omega (arith, e, a.0.head.kinds))
+      go (enum_variant i None) a room = absurd (omega (arith, e, a.0.head.kinds))
+      go (enum_variant i (Some is)) a room = absurd (omega (arith, e, a.0.head.kinds))
 
   pub pattern_parts : {c : Cursor} → (kind_at b at ≡ 82 → ⊥) → Has PatternAt pattern s b at c → PatternParts s b at c
   unfolding PatternAt pattern
@@ -175,8 +176,8 @@ module _ {s b : List ℕ} {at : ℕ} where
 
       go : (p : Pattern) → PatternAt s b p at → Room (pattern (given s b) p) c → PatternParts s b at c
       go underscore a room = absurd (f a.0.head.kinds)
-      go (enum_variant i none) a room = parts i none a room
-      go (enum_variant i (some is)) a room = parts i (some is) a (room_first _ room)
+      go (enum_variant i None) a room = parts i None a room
+      go (enum_variant i (Some is)) a room = parts i (Some is) a (room_first _ room)
 
   pub fields_whole : {c : Cursor} → (kind_at b at ≡ 82 → ⊥) → (be32 b (stop_at b (at + 13)) ≡ 0 → ⊥) → Has PatternAt pattern s b at c
       → Whole b (stop_at b (at + 13))
@@ -185,8 +186,8 @@ module _ {s b : List ℕ} {at : ℕ} where
     where
       go : (p : Pattern) → PatternAt s b p at → Whole b (stop_at b (at + 13))
       go underscore a = absurd (f a.0.head.kinds)
-      go (enum_variant i none) a = absurd (g a.2.zero)
-      go (enum_variant i (some is)) a = head_whole a.2.head
+      go (enum_variant i None) a = absurd (g a.2.zero)
+      go (enum_variant i (Some is)) a = head_whole a.2.head
 
   pub fields_list : {x y : List ℕ} {c d : Cursor} → (kind_at b at ≡ 82 → ⊥) → (be32 b (stop_at b (at + 13)) ≡ 0 → ⊥)
       → LaysAs IdentAt ident s b (at + 13) x c y d → Has PatternAt pattern s b at c
@@ -197,8 +198,8 @@ module _ {s b : List ℕ} {at : ℕ} where
       go : (p : Pattern) → PatternAt s b p at → Room (pattern (given s b) p) c
           → HasList IdentElem parens (be32 b (stop_at b (at + 13) + 9)) s b (stop_at b (at + 13)) d
       go underscore a room = absurd (f a.0.head.kinds)
-      go (enum_variant i none) a room = absurd (g a.2.zero)
-      go (enum_variant i (some is)) a room =
+      go (enum_variant i None) a room = absurd (g a.2.zero)
+      go (enum_variant i (Some is)) a room =
           record {
             accepted = h.accepted;
             tree = ident_elems (given s b) is.elems;
@@ -216,8 +217,8 @@ module _ {s b : List ℕ} {at : ℕ} where
     where
       go : (p : Pattern) → PatternAt s b p at → Lays (pattern (given s b) p) x c y d
       go underscore a = l
-      go (enum_variant i none) a = absurd (omega (arith, e, a.0.head.kinds))
-      go (enum_variant i (some is)) a = absurd (omega (arith, e, a.0.head.kinds))
+      go (enum_variant i None) a = absurd (omega (arith, e, a.0.head.kinds))
+      go (enum_variant i (Some is)) a = absurd (omega (arith, e, a.0.head.kinds))
 
   pub bare_pattern : {x y : List ℕ} {c d : Cursor} → (kind_at b at ≡ 82 → ⊥) → be32 b (stop_at b (at + 13)) ≡ 0
       → LaysAs IdentAt ident s b (at + 13) x c y d → LaysAs PatternAt pattern s b at x c y d
@@ -226,8 +227,8 @@ module _ {s b : List ℕ} {at : ℕ} where
     where
       go : (p : Pattern) → PatternAt s b p at → Lays (pattern (given s b) p) x c y d
       go underscore a = absurd (f a.0.head.kinds)
-      go (enum_variant i none) a = l.of i a.1
-      go (enum_variant i (some is)) a = absurd (omega (arith, e, a.2.head.long))
+      go (enum_variant i None) a = l.of i a.1
+      go (enum_variant i (Some is)) a = absurd (omega (arith, e, a.2.head.long))
 
   pub full_pattern : {x y z : List ℕ} {c d e : Cursor} → (kind_at b at ≡ 82 → ⊥) → (be32 b (stop_at b (at + 13)) ≡ 0 → ⊥)
       → LaysAs IdentAt ident s b (at + 13) x c y d
@@ -238,8 +239,8 @@ module _ {s b : List ℕ} {at : ℕ} where
     where
       go : (p : Pattern) → PatternAt s b p at → Lays (pattern (given s b) p) x c z e
       go underscore a = absurd (f a.0.head.kinds)
-      go (enum_variant i none) a = absurd (g a.2.zero)
-      go (enum_variant i (some is)) a =
+      go (enum_variant i None) a = absurd (g a.2.zero)
+      go (enum_variant i (Some is)) a =
           lays_then (l.of i a.1)
           (m.of (ident_elems (given s b) is.elems)
           (list_of a.2.head (ident_elems_lem s b (stop_at b (stop_at b (at + 13))) (stop_at b (at + 13) + 13) is.elems a.2.elems))

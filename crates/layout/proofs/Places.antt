@@ -3,7 +3,7 @@
 use mathlib.Core.Path.{◌≡◌, sym, ◌∙◌}
 use mathlib.Core.Bool.{Bool, true, false}
 use mathlib.Core.List.{List}
-use mathlib.Core.Option.{Option, none, some}
+use Rattle.std.specs.Prelude.{Option, None, Some}
 use Prim.Native.Nat.{ℕ, ◌+◌}
 use native.Mathlib.Omega.{arith}
 use lib.Dec.{eqb}
@@ -78,18 +78,18 @@ module _ (s b : List ℕ) (at : ℕ) where
 
   pub maybe_type : (m : Option TypeExpr) → Maybe s b (TypeAt s b) m at → InImage b at
   unfolding Maybe
-  maybe_type none a = absent_within a
-  maybe_type (some t) a = within (type_whole t a)
+  maybe_type None a = absent_within a
+  maybe_type (Some t) a = within (type_whole t a)
 
   pub maybe_list : (m : Option Idents) → Maybe s b (ListAt s b) m at → InImage b at
   unfolding Maybe
-  maybe_list none a = absent_within a
-  maybe_list (some is) a = within (head_whole a.head)
+  maybe_list None a = absent_within a
+  maybe_list (Some is) a = within (head_whole a.head)
 
   pub maybe_path : (q : Option Path) → Maybe s b (PathAt s b) q at → InImage b at
   unfolding Maybe
-  maybe_path none a = absent_within a
-  maybe_path (some p) a = within (path_whole a)
+  maybe_path None a = absent_within a
+  maybe_path (Some p) a = within (path_whole a)
 
   pub args_within : (a : TypeArgs) → TypeArgsAt s b a at → InImage b at
   unfolding TypeArgsAt
@@ -103,8 +103,8 @@ module _ (s b : List ℕ) (at : ℕ) where
 
   pub maybe_ident : (m : Option Ident) → Maybe s b (IdentAt s b) m at → InImage b at
   unfolding Maybe
-  maybe_ident none a = absent_within a
-  maybe_ident (some i) a = within (ident_whole a)
+  maybe_ident None a = absent_within a
+  maybe_ident (Some i) a = within (ident_whole a)
 
   -- where the span of an import starts
   pub import_start : (i : Import) → ImportAt s b i at → be32 b (at + 5) ≡ (import_span i).start

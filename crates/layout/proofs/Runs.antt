@@ -5,13 +5,14 @@ use mathlib.Core.Bool.{Bool, true, false}
 use mathlib.Core.List.{List, [], ◌∷◌}
 use Prim.Native.Nat.{ℕ, ◌+◌, ◌*◌, ◌-◌, ◌≤◌, ◌<◌}
 use native.Mathlib.Omega.{arith}
-use lib.ListN.{length, get_or, set}
+use lib.ListN.{length, set}
 use Rattle.image.specs.Bytes.{be32}
 use Rattle.image.specs.Read.{stop_at}
 use Rattle.ast.specs.Syntax.{Span, Ident, type, Types, no_types, ◌∷ᵗ◌, Fields, no_fields, field, import, Imports, no_imports}
 use Rattle.ast.specs.Syntax.{◌∷ⁱ◌, Variants, no_variants, variant, expr, Exprs, no_exprs, ◌∷ᵉ◌, Entries, no_entries, entry, Arms, no_arms, arm}
 use Rattle.tree.specs.At.{Head, IdentsAt, TypeAt, TypesAt, FieldsAt, ImportAt, ImportsAt, VariantsAt, ExprAt, ExprsAt, EntriesAt, ArmsAt}
-use Rattle.rows.specs.Words.{table}
+use Rattle.acts.specs.Spelling.{spelling}
+use Rattle.acts.specs.declared.words.Word.TheVariants.{ParenOpen, ParenClose, BracketOpen, BracketClose, BraceOpen, BraceClose}
 use Rattle.acts.specs.Act.{Given, Act, ◌⨟◌, says, grouped, indented}
 use Rattle.acts.specs.Laid.{Room, Laid}
 use Rattle.acts.specs.declared.Cursor.{Cursor}
@@ -22,12 +23,10 @@ use Rattle.tree.specs.CommentList.{span}
 use Rattle.comments.specs.Listed.{given}
 use Rattle.layout.specs.declared.forms.ListForm.{ListForm}
 use Rattle.layout.specs.declared.forms.WrapStyle.TheVariants.{Tight}
-use Rattle.layout.specs.declared.forms.TypeElement.TheVariants as types
-use Rattle.layout.specs.declared.forms.ExprElement.TheVariants as exprs
 use Rattle.layout.specs.Layout.{Elem, elements, separated, inside, before_elem, ident_elems, type_elems, field_elems}
 use Rattle.layout.specs.Layout.{import_elems, variant_elems, expr_elems, grouped_elems, entry_elems, arm_elems, edge, ends}
 use Rattle.layout.specs.Promises.{Has, HasAll, Whole, Readable}
-use Rattle.layout.specs.Elems.{Is, elem_rule, IdentElem, ImportElem, VariantElem, TypeElem, ExprElem, ElemsAt, mark, elements_rule, ListOf}
+use Rattle.layout.specs.Elems.{elem_rule, IdentElem, ImportElem, VariantElem, TypeElem, FieldElem, ExprElem, GroupedElem, EntryElem, ArmElem, ElemsAt, mark, elements_rule, ListOf}
 use Rattle.layout.specs.Elems.{starts, list_rule, HasList, HasEmpty, Begins, Begun, HasElems, LaidElems}
 use Rattle.layout.proofs.Lays.{LaysAll, LaysAs, LaysList, LaysEmpty}
 
@@ -114,16 +113,6 @@ module _ (P : List ℕ → List ℕ → Elem → ℕ → Type 0) {s b : List ℕ
           lays_then (subst (λ (j : ℕ). Lays (before_elem (given s b) (mark commas) first j) x c y d) (q ∙ a.0.start) l)
           (lays_then (m.of i a.0.item) (r.of es a.2))
 
--- an element whose kind is known
-module _ {T : Type 0} {R : List ℕ → List ℕ → T → ℕ → Type 0} {rule : Given → T → Act} {s b : List ℕ} {at : ℕ} where
-  pub elem_of : {c : Cursor} → Has (Is R rule) elem_rule s b at c → Has R rule s b at c
-  elem_of {c} h =
-      let i = h.held in
-      record { accepted = h.accepted; tree = i.tree; held = i.held; room = subst (λ (r : Act). Room r c) (sym i.same) h.room }
-
-  pub elem_laid : {x y : List ℕ} {c d : Cursor} → LaysAs R rule s b at x c y d → LaysAs (Is R rule) elem_rule s b at x c y d
-  elem_laid {x} {y} {c} {d} l = record { of = λ e i. subst (λ (r : Act). Lays r x c y d) i.same (l.of i.tree i.held) }
-
 -- ---- the lists of the syntax tree as elements
 module _ (s b : List ℕ) (to : ℕ) where
   pub ident_elems_lem : (at : ℕ) (is : List Ident) → IdentsAt s b is at to → ElemsAt IdentElem s b (ident_elems (given s b) is) at to
@@ -135,7 +124,7 @@ module _ (s b : List ℕ) (to : ℕ) where
     ident_elems_lem (stop_at b at) is a.2,
   )
 
-  pub type_elems_lem : (at : ℕ) (ts : Types) → TypesAt s b ts at to → ElemsAt (TypeElem types.Type) s b (type_elems (given s b) ts) at to
+  pub type_elems_lem : (at : ℕ) (ts : Types) → TypesAt s b ts at to → ElemsAt TypeElem s b (type_elems (given s b) ts) at to
   unfolding TypesAt TypeAt ElemsAt type_elems
   type_elems_lem at no_types a = a
   type_elems_lem at (type p f ∷ᵗ ts) a = (
@@ -144,7 +133,7 @@ module _ (s b : List ℕ) (to : ℕ) where
     type_elems_lem (stop_at b at) ts a.2,
   )
 
-  pub field_elems_lem : (at : ℕ) (fs : Fields) → FieldsAt s b fs at to → ElemsAt (TypeElem types.Field) s b (field_elems (given s b) fs) at to
+  pub field_elems_lem : (at : ℕ) (fs : Fields) → FieldsAt s b fs at to → ElemsAt FieldElem s b (field_elems (given s b) fs) at to
   unfolding FieldsAt ElemsAt field_elems
   field_elems_lem at no_fields a = a
   field_elems_lem at (field p i t fs) a = (
@@ -171,7 +160,7 @@ module _ (s b : List ℕ) (to : ℕ) where
     variant_elems_lem (stop_at b at) vs a.6,
   )
 
-  pub expr_elems_lem : (at : ℕ) (es : Exprs) → ExprsAt s b es at to → ElemsAt (ExprElem exprs.Expr) s b (expr_elems (given s b) es) at to
+  pub expr_elems_lem : (at : ℕ) (es : Exprs) → ExprsAt s b es at to → ElemsAt ExprElem s b (expr_elems (given s b) es) at to
   unfolding ExprsAt ExprAt ElemsAt expr_elems
   expr_elems_lem at no_exprs a = a
   expr_elems_lem at (expr p f ∷ᵉ es) a = (
@@ -180,7 +169,7 @@ module _ (s b : List ℕ) (to : ℕ) where
     expr_elems_lem (stop_at b at) es a.2,
   )
 
-  pub grouped_elems_lem : (at : ℕ) (es : Exprs) → ExprsAt s b es at to → ElemsAt (ExprElem exprs.Grouped) s b (grouped_elems (given s b) es) at to
+  pub grouped_elems_lem : (at : ℕ) (es : Exprs) → ExprsAt s b es at to → ElemsAt GroupedElem s b (grouped_elems (given s b) es) at to
   unfolding ExprsAt ExprAt ElemsAt grouped_elems
   grouped_elems_lem at no_exprs a = a
   grouped_elems_lem at (expr p f ∷ᵉ es) a = (
@@ -189,7 +178,7 @@ module _ (s b : List ℕ) (to : ℕ) where
     grouped_elems_lem (stop_at b at) es a.2,
   )
 
-  pub entry_elems_lem : (at : ℕ) (es : Entries) → EntriesAt s b es at to → ElemsAt (ExprElem exprs.Entry) s b (entry_elems (given s b) es) at to
+  pub entry_elems_lem : (at : ℕ) (es : Entries) → EntriesAt s b es at to → ElemsAt EntryElem s b (entry_elems (given s b) es) at to
   unfolding EntriesAt ElemsAt entry_elems
   entry_elems_lem at no_entries a = a
   entry_elems_lem at (entry p i e es) a = (
@@ -198,7 +187,7 @@ module _ (s b : List ℕ) (to : ℕ) where
     entry_elems_lem (stop_at b at) es a.5,
   )
 
-  pub arm_elems_lem : (at : ℕ) (arms : Arms) → ArmsAt s b arms at to → ElemsAt (ExprElem exprs.Arm) s b (arm_elems (given s b) arms) at to
+  pub arm_elems_lem : (at : ℕ) (arms : Arms) → ArmsAt s b arms at to → ElemsAt ArmElem s b (arm_elems (given s b) arms) at to
   unfolding ArmsAt ElemsAt arm_elems
   arm_elems_lem at no_arms a = a
   arm_elems_lem at (arm p q g e arms) a = (
@@ -214,13 +203,13 @@ list_of h a = record { long = h.long; fits = h.fits; elems = a }
 
 -- ---- a list by its form
 abbrev pub parens : ListForm
-parens = record { left = 35; right = 36; commas = true; style = Tight }
+parens = record { left = ParenOpen; right = ParenClose; commas = true; style = Tight }
 
 abbrev pub brackets : ListForm
-brackets = record { left = 37; right = 38; commas = true; style = Tight }
+brackets = record { left = BracketOpen; right = BracketClose; commas = true; style = Tight }
 
 abbrev pub braces : ListForm
-braces = record { left = 39; right = 40; commas = true; style = Tight }
+braces = record { left = BraceOpen; right = BraceClose; commas = true; style = Tight }
 
 -- the steps where there are elements
 abbrev pub list_steps : ListForm → ℕ → ℕ → Given → List Elem → Act
@@ -228,7 +217,7 @@ list_steps form end id g es =
     starts form
     ⨟ indented (elements_rule form.commas true g es ⨟ ends g (mark form.commas) id (span 0 end))
     ⨟ edge form.style
-    ⨟ says (get_or table form.right "")
+    ⨟ says (spelling form.right)
     ⨟ pop_trailing_comment g
 
 -- what a list lays goes by the end of the span alone
@@ -356,10 +345,10 @@ module _ {form : ListForm} {end : ℕ} {s b : List ℕ} {c i d : Cursor} {y : Li
         lays_indent h.begun.indent (lays_then (lays h.elems) (lays l))
         (k ∙ ap (λ (n : ℕ). set z (9 * n + 4) e.row) (omega (arith, indent_row)))
 
-    pub close_room : Room (edge form.style ⨟ says (get_or table form.right "") ⨟ pop_trailing_comment (given s b)) e
+    pub close_room : Room (edge form.style ⨟ says (spelling form.right) ⨟ pop_trailing_comment (given s b)) e
     close_room = room_next (room_next in_list (lays h.begun.words)) inner
 
-    pub list_ended : {u v : List ℕ} {r : Cursor} → Laid (edge form.style ⨟ says (get_or table form.right "") ⨟ pop_trailing_comment (given s b)) w e u r
+    pub list_ended : {u v : List ℕ} {r : Cursor} → Laid (edge form.style ⨟ says (spelling form.right) ⨟ pop_trailing_comment (given s b)) w e u r
         → v ≡ set u (9 * c.row + 4) r.row → Laid (list_rule form (given s b) (h.first ∷ h.more) h.span) h.store₀ c v r
     list_ended {v = v} {r = r} m j =
         subst (λ (a : Act). Laid a h.store₀ c v r) (sym same)

@@ -21,7 +21,6 @@ use Rattle.layout.proofs.Runs.{list_of, type_elems_lem, parens, brackets}
 use Rattle.layout.specs.Layout.{type_expr, type_args, type_elems, variant_types, last_span}
 use Rattle.layout.specs.Promises.{Has, Whole, Readable}
 use Rattle.layout.specs.Elems.{TypeElem, HasList}
-use Rattle.layout.specs.declared.forms.TypeElement.TheVariants as types
 use Rattle.layout.specs.Forms.{OfType, type_rule, two, SomeTypesAt, LastEnd}
 use Rattle.layout.proofs.Lays.{LaysAs, LaysList}
 
@@ -95,11 +94,11 @@ args_whole s b at f no_args a = absurd (f a.zero)
 args_whole s b at f (args p ts) a = head_whole a.0
 
 module _ {s b : List ℕ} {at : ℕ} where
-  pub args_list : {c : Cursor} → (be32 b at ≡ 0 → ⊥) → Has TypeArgsAt type_args s b at c → HasList (TypeElem types.Type) brackets (be32 b (at + 9)) s b at c
+  pub args_list : {c : Cursor} → (be32 b at ≡ 0 → ⊥) → Has TypeArgsAt type_args s b at c → HasList TypeElem brackets (be32 b (at + 9)) s b at c
   unfolding TypeArgsAt type_args
   args_list {c} f h = go h.tree h.held h.room
     where
-      go : (q : TypeArgs) → TypeArgsAt s b q at → Room (type_args (given s b) q) c → HasList (TypeElem types.Type) brackets (be32 b (at + 9)) s b at c
+      go : (q : TypeArgs) → TypeArgsAt s b q at → Room (type_args (given s b) q) c → HasList TypeElem brackets (be32 b (at + 9)) s b at c
       go no_args a room = absurd (f a.zero)
       go (args p ts) a room =
           record {
@@ -119,7 +118,7 @@ module _ {s b : List ℕ} {at : ℕ} where
       go no_args a = lays_skip
       go (args p ts) a = absurd (omega (arith, e, a.0.long))
 
-  pub some_args : {x y : List ℕ} {c d : Cursor} → (be32 b at ≡ 0 → ⊥) → LaysList (TypeElem types.Type) brackets (be32 b (at + 9)) s b at x c y d
+  pub some_args : {x y : List ℕ} {c d : Cursor} → (be32 b at ≡ 0 → ⊥) → LaysList TypeElem brackets (be32 b (at + 9)) s b at x c y d
       → LaysAs TypeArgsAt type_args s b at x c y d
   unfolding TypeArgsAt type_args
   some_args {x} {y} {c} {d} f l = record { of = go }
@@ -140,7 +139,7 @@ module _ (s b : List ℕ) (from to : ℕ) where
   no_types_lem e (t ∷ᵗ ts) a = absurd (omega (arith, e, a.1.least, (type_whole s b from t a.0).long))
 
 pub types_laid : {s b : List ℕ} {at r : ℕ} {x y : List ℕ} {c d : Cursor} {n : ℕ} {q : Span} → (at + 13 ≡ stop_at b at → ⊥) → Head s b n q at
-    → LastEnd b (at + 13) (stop_at b at) r → LaysList (TypeElem types.Type) parens r s b at x c y d
+    → LastEnd b (at + 13) (stop_at b at) r → LaysList TypeElem parens r s b at x c y d
     → (ts : Types) → TypesAt s b ts (at + 13) (stop_at b at) → Lays (variant_types (given s b) ts) x c y d
 unfolding TypesAt
 types_laid f h e l no_types a = absurd (f a.same)
@@ -149,7 +148,7 @@ types_laid {s} {b} {at} f h e l (t ∷ᵗ ts) a =
 
 pub types_list : {s b : List ℕ} {at r : ℕ} {c : Cursor} {n : ℕ} {q : Span} → Readable s b → (at + 13 ≡ stop_at b at → ⊥) → Head s b n q at
     → LastEnd b (at + 13) (stop_at b at) r → (ts : Types) → TypesAt s b ts (at + 13) (stop_at b at) → Room (variant_types (given s b) ts) c
-    → HasList (TypeElem types.Type) parens r s b at c
+    → HasList TypeElem parens r s b at c
 unfolding TypesAt
 types_list k f h e no_types a room = absurd (f a.same)
 types_list {s} {b} {at} k f h e (t ∷ᵗ ts) a room =

@@ -1,22 +1,20 @@
 -- The contracts of lists: the elements of `separated` in the image, and how a list of them is laid.
-use Rattle.std.specs.Prelude.{ℕ, ◌+◌, ◌≤◌, ◌≡◌, Bool, true, cond, List, [], ◌∷◌, length, get_or}
+use Rattle.std.specs.Prelude.{ℕ, ◌+◌, ◌≤◌, ◌≡◌, Bool, true, cond, List, [], ◌∷◌, length}
 use Prim.Native.String.{String}
+use Rattle.std.specs.Fn.{Shared}
+use denote.Ref.{MutBor}
 use Rattle.image.specs.Bytes.{be32}
 use Rattle.image.specs.Kinds.{LIST, NAME_AND_TYPE, VARIANT, FIELD, ARM}
 use Rattle.image.specs.Read.{stop_at}
 use Rattle.ast.specs.Syntax.{Span, Ident, Idents, TypeExpr, Types, Fields, Pattern, MaybeExpr, Expr, Exprs, Entries}
 use Rattle.tree.specs.At.{Head, Record, first_at, second_at, third_at, Ends, Done, Before, IdentAt, TypeAt, TypesAt, ImportAt, PatternAt, MaybeExprAt, ExprAt}
 use Rattle.rows.specs.Kinds.{GROUP, INDENT}
-use Rattle.rows.specs.Words.{table}
+use Rattle.acts.specs.Spelling.{spelling}
 use Rattle.acts.specs.Act.{Given, Act, ◌⨟◌, grouped, indented}
 use Rattle.acts.specs.Laid.{Room, Laid, Opened}
 use Rattle.acts.specs.declared.Cursor.{Cursor}
 use Rattle.comments.specs.Listed.{given}
 use Rattle.layout.specs.declared.forms.ListForm.{ListForm}
-use Rattle.layout.specs.declared.forms.TypeElement.{TypeElement}
-use Rattle.layout.specs.declared.forms.TypeElement.TheVariants as types
-use Rattle.layout.specs.declared.forms.ExprElement.{ExprElement}
-use Rattle.layout.specs.declared.forms.ExprElement.TheVariants as exprs
 use Rattle.layout.specs.declared.forms.WrapStyle.{WrapStyle}
 use Rattle.layout.specs.Promises.{Readable}
 use Rattle.layout.specs.Layout.{Elem, ident, named, type_expr, import_path, opens, elements, separated, params, type_params, record_type_rule, function_args, record_rule}
@@ -72,7 +70,7 @@ pub record Is {T : Type 0} (R : List ℕ → List ℕ → T → ℕ → Type 0) 
   pub held : R s b tree at
   pub same : rule (given s b) tree ≡ e.act
 
--- an element by its kind: of a list of identifiers, of imports, of variants, of types, and of expressions
+-- the elements of each list
 abbrev pub IdentElem : List ℕ → List ℕ → Elem → ℕ → Type 0
 IdentElem = Is IdentAt ident
 
@@ -82,15 +80,23 @@ ImportElem = Is ImportAt import_path
 abbrev pub VariantElem : List ℕ → List ℕ → Elem → ℕ → Type 0
 VariantElem = Is VariantAt variant_rule
 
-abbrev pub TypeElem : TypeElement → List ℕ → List ℕ → Elem → ℕ → Type 0
-TypeElem types.Type = Is TypeAt type_expr
-TypeElem types.Field = Is FieldAt field_rule
+abbrev pub TypeElem : List ℕ → List ℕ → Elem → ℕ → Type 0
+TypeElem = Is TypeAt type_expr
 
-abbrev pub ExprElem : ExprElement → List ℕ → List ℕ → Elem → ℕ → Type 0
-ExprElem exprs.Expr = Is ExprAt expr_rule
-ExprElem exprs.Grouped = Is ExprAt grouped_rule
-ExprElem exprs.Entry = Is EntryAt entry_rule
-ExprElem exprs.Arm = Is ArmAt arm_rule
+abbrev pub FieldElem : List ℕ → List ℕ → Elem → ℕ → Type 0
+FieldElem = Is FieldAt field_rule
+
+abbrev pub ExprElem : List ℕ → List ℕ → Elem → ℕ → Type 0
+ExprElem = Is ExprAt expr_rule
+
+abbrev pub GroupedElem : List ℕ → List ℕ → Elem → ℕ → Type 0
+GroupedElem = Is ExprAt grouped_rule
+
+abbrev pub EntryElem : List ℕ → List ℕ → Elem → ℕ → Type 0
+EntryElem = Is EntryAt entry_rule
+
+abbrev pub ArmElem : List ℕ → List ℕ → Elem → ℕ → Type 0
+ArmElem = Is ArmAt arm_rule
 
 -- the rule of an element
 abbrev pub elem_rule : Given → Elem → Act
@@ -101,6 +107,13 @@ pub record ElemAt (P : List ℕ → List ℕ → Elem → ℕ → Type 0) (s b :
   pub start : be32 b (at + 5) ≡ e.start
   pub long : 9 ≤ be32 b at
   pub item : P s b e at
+
+-- the closure f lays the element e, which is at `at`
+pub record Laying {F : Type 0} (g : Shared F (MutBor (List ℕ) × (Cursor × (ℕ × Unit {0}))) (Cursor × (MutBor (List ℕ) × Unit {0}))) (f : F)
+    (s b : List ℕ) (e : Elem) (at : ℕ) : Type 0 where
+  pub takes : (x : MutBor (List ℕ)) (c : Cursor) → Room e.act c → g.pre f (x, (c, (at, tt)))
+  pub lays :
+      (x y : MutBor (List ℕ)) (c d : Cursor) → Room e.act c → g.post f (x, (c, (at, tt))) (d, (y, tt)) → Laid e.act x.now c y.now d
 
 -- elements one after the other
 unfoldable pub ElemsAt : (List ℕ → List ℕ → Elem → ℕ → Type 0) → List ℕ → List ℕ → List Elem → ℕ → ℕ → Type 0
@@ -123,11 +136,11 @@ pub record ListOf (P : List ℕ → List ℕ → Elem → ℕ → Type 0) (s b :
 
 -- ---- `separated`, by a list's form
 abbrev pub starts : ListForm → Act
-starts form = opens (get_or table form.left "") form.style
+starts form = opens (spelling form.left) form.style
 
 abbrev pub list_rule : ListForm → Given → List Elem → Span → Act
 list_rule form g es span =
-    separated g (get_or table form.left "") (get_or table form.right "") (mark form.commas) es span form.style
+    separated g (spelling form.left) (spelling form.right) (mark form.commas) es span form.style
 
 -- a list is at `at`, and there is room for `separated` over a span that ends at `end`
 pub record HasList (P : List ℕ → List ℕ → Elem → ℕ → Type 0) (form : ListForm) (end : ℕ) (s b : List ℕ) (at : ℕ) (c : Cursor) : Type 0 where

@@ -1,12 +1,12 @@
 -- The contracts by forms: each form of types, expressions, statements and declarations at an offset of the image, and its rule.
-use Rattle.std.specs.Prelude.{ℕ, ◌+◌, ◌≤◌, ◌<◌, ◌≡◌, Bool, List, length, get_or}
-use Rattle.std.proofs.Math.Option.{Option}
+use Rattle.std.specs.Prelude.{ℕ, ◌+◌, ◌≤◌, ◌<◌, ◌≡◌, Bool, List, length, Option}
 use Rattle.image.specs.Kinds.{TEXT_PART, EXPR_PART, OPERATOR, LITERAL}
 use Rattle.image.specs.Read.{stop_at}
 use Rattle.ast.specs.Syntax.{Span, Ident, Path, TypeExpr, type, TypeForm, Types, ◌∷ᵗ◌, Expr, expr, Form, MaybeExpr, Block, Stmts, stmt, let', Idents, Declaration}
 use Rattle.tree.specs.At.{Head, Record, Done, Ends, ByteAt, PathAt, Maybe, TypeAt, TypesAt, ExprAt, BlockAt, StmtAt, IdentAt, ListAt, DeclarationAt}
 use Rattle.rows.specs.Node.{ascii}
-use Rattle.rows.specs.Words.{table}
+use Rattle.acts.specs.Spelling.{spelling}
+use Rattle.acts.specs.declared.words.Word.{Word}
 use Rattle.acts.specs.Act.{Given, Act, ◌⨟◌, says, push, content}
 use Rattle.layout.specs.Layout as layout
 
@@ -62,19 +62,19 @@ Of mk s b x at = ExprAt s b (expr x.0 (mk x.1)) at
 abbrev pub form_rule : {X : Type 0} → (X → Form) → ℕ → Given → Span × X → Act
 form_rule mk outer g x = layout.expr_form g x.0 (mk x.1) outer
 
--- the fixed word at a place, and an expression
-abbrev pub after_word : ℕ → ℕ → Given → Expr → Act
-after_word k outer g e = says (get_or table k "") ⨟ expr_with outer g e
+-- a word, and an expression
+abbrev pub after_word : Word → ℕ → Given → Expr → Act
+after_word k outer g e = says (spelling k) ⨟ expr_with outer g e
 
-abbrev pub maybe_after : ℕ → Given → MaybeExpr → Act
-maybe_after k g m = layout.maybe_expr g (get_or table k "") m
+abbrev pub maybe_after : Word → Given → MaybeExpr → Act
+maybe_after k g m = layout.maybe_expr g (spelling k) m
 
 -- a condition and the block after it
 abbrev pub ClauseAt : List ℕ → List ℕ → Expr × Block → ℕ → Type 0
 ClauseAt s b x at = ExprAt s b x.0 at × BlockAt s b x.1 (stop_at b at)
 
-abbrev pub clause_rule : ℕ → Given → Expr × Block → Act
-clause_rule k g x = layout.clause (get_or table k "") (expr_with 0 g x.0) (layout.block_rule g x.1)
+abbrev pub clause_rule : Word → Given → Expr × Block → Act
+clause_rule k g x = layout.clause (spelling k) (expr_with 0 g x.0) (layout.block_rule g x.1)
 
 -- a record's span, and the source between its ends
 abbrev pub SpanAt : List ℕ → List ℕ → Span → ℕ → Type 0
@@ -140,9 +140,9 @@ declaration_rule mk first g x = layout.declaration g (mk x) first
 abbrev pub any_declaration : Declaration → Declaration
 any_declaration d = d
 
--- the word at a place, and the name
-abbrev pub declares_at : ℕ → Bool → Given → Ident → Act
-declares_at k first g i = layout.declares g (get_or table k "") first i
+-- a word, and the name
+abbrev pub declares_at : Word → Bool → Given → Ident → Act
+declares_at k first g i = layout.declares g (spelling k) first i
 
 -- optional lists of type parameters
 abbrev pub MaybeListAt : List ℕ → List ℕ → Option Idents → ℕ → Type 0

@@ -1,7 +1,6 @@
 -- The layout rules: `State` of fmt.rs from `separated` on, function by function, under its names.
-use Rattle.std.specs.Prelude.{ℕ, ◌+◌, ◌-◌, Bool, true, false, cond, not, ◌&&◌, ◌||◌, List, [], ◌∷◌, get_or, ltb, eqb}
+use Rattle.std.specs.Prelude.{ℕ, ◌+◌, ◌-◌, Bool, true, false, cond, not, ◌&&◌, ◌||◌, List, [], ◌∷◌, get_or, ltb, eqb, Option, None, Some}
 use Prim.Native.String.{String}
-use Rattle.std.proofs.Math.Option.{Option, none, some}
 use lib.Text.{eqt}
 use Rattle.text.specs.Space.{trim_end}
 use Rattle.image.specs.Kinds.{BLOCK_EXPR, MATCH, IF_ELSE, WHILE, FOR}
@@ -115,8 +114,8 @@ pub record Operands : Type 0 where
 
 -- ---- tests on the tree
 abbrev pub is_some : {A : Type 0} → Option A → Bool
-is_some none = false
-is_some (some a) = true
+is_some None = false
+is_some (Some a) = true
 
 abbrev pub is_group : ImportGroup → Bool
 is_group no_group = false
@@ -310,8 +309,8 @@ module _ (g : Given) where
 
   -- ---- `import_path`
   abbrev pub import_first : Option Path → Act
-  import_first none = skip
-  import_first (some p) = path_rule p true false
+  import_first None = skip
+  import_first (Some p) = path_rule p true false
 
   abbrev pub one_or : Imports → Act → Act → Act
   one_or no_imports one more = one
@@ -337,8 +336,8 @@ module _ (g : Given) where
   -- ---- the pattern of a match arm
   unfoldable pub pattern : Pattern → Act
   pattern underscore = says "_"
-  pattern (enum_variant i none) = ident i
-  pattern (enum_variant i (some fs)) = ident i ⨟ separated "(" ")" "," (ident_elems fs.elems) fs.span Tight
+  pattern (enum_variant i None) = ident i
+  pattern (enum_variant i (Some fs)) = ident i ⨟ separated "(" ")" "," (ident_elems fs.elems) fs.span Tight
 
   -- ---- `binop`
   -- what comes before the right operand
@@ -380,8 +379,8 @@ module _ (g : Given) where
   after_stmt position = gap position false false false ⨟ pop_trailing_comment g
 
   abbrev pub let_type : Option TypeExpr → Act
-  let_type none = skip
-  let_type (some t) = says ": " ⨟ type_expr t
+  let_type None = skip
+  let_type (Some t) = says ": " ⨟ type_expr t
 
   -- ---- `expr_with_precedence`, `block` and `stmt`
   unfoldable mutual
@@ -519,12 +518,12 @@ module _ (g : Given) where
       pop_whitespace g position (not first) true (not first) ⨟? (λ gap. when (not first && not (whitespace gap)) (push line))
 
   abbrev pub some_type_params : Option Idents → Act
-  some_type_params none = skip
-  some_type_params (some is) = unless_empty is.elems (type_params (ident_elems is.elems) is.span)
+  some_type_params None = skip
+  some_type_params (Some is) = unless_empty is.elems (type_params (ident_elems is.elems) is.span)
 
   abbrev pub return_type : Option TypeExpr → Act
-  return_type none = skip
-  return_type (some t) = says "-> " ⨟ type_expr t ⨟ says " "
+  return_type None = skip
+  return_type (Some t) = says "-> " ⨟ type_expr t ⨟ says " "
 
   -- the types of a variant, in a list whose end is taken from the last of them
   abbrev pub variant_types : Types → Act
@@ -555,8 +554,8 @@ module _ (g : Given) where
 
   -- ---- `fmt_parsed`
   unfoldable pub shebang_rule : Option Ident → Act
-  shebang_rule none = skip
-  shebang_rule (some i) =
+  shebang_rule None = skip
+  shebang_rule (Some i) =
       image_str i.width i.start (trim_end g.image i.start (i.start + i.size) - i.start) ⨟ push empty_line
 
   unfoldable pub declarations_rule : List Declaration → Bool → Act

@@ -3,4 +3,5 @@ pub mod Closing
 pub mod Promises
 pub mod Elems
 pub mod Forms
+pub mod Ranks
 pub mod Chains

@@ -1,23 +1,22 @@
 // The parts of `block` and `stmt` that lay no statement below them.
-ghost use Rattle.std.specs.Prelude.{◌≡◌, not, ◌&&◌, ◌||◌, ◌+◌, ◌<◌, ◌≤◌, get_or, length, eqb, leb};
-ghost use Rattle.rows.specs.Words.{table};
+ghost use Rattle.std.specs.Prelude.{◌≡◌, not, ◌&&◌, ◌||◌, ◌+◌, eqb, leb};
 ghost use Rattle.image.specs.Bytes.{be32};
 ghost use Rattle.image.specs.Kinds.{BLOCK_EXPR, MATCH, IF_ELSE, FOR};
 ghost use Rattle.image.specs.Read.{stop_at, kind_at};
 ghost use Rattle.acts.specs.Act.{when, says};
 ghost use Rattle.acts.specs.Laid.{Room, Laid};
 ghost use Rattle.comments.specs.Listed.{given};
-ghost use Rattle.layout.specs.Layout.{before_stmt, after_stmt, block_start, assign_symbol, let_type};
+ghost use Rattle.layout.specs.Layout.{before_stmt, after_stmt, block_start, let_type};
 ghost use Rattle.layout.specs.Promises.{Readable, Has, LaidAs, InImage, Whole};
 ghost use Rattle.layout.specs.Forms.{MaybeTypeAt};
 
-use crate::numbers::{HEAD, is_absent, kind, payload, second};
+use crate::numbers::{HEAD, is_absent, kind, second};
 use crate::pieces::gap;
 use crate::types::type_expr;
 use acts::Cursor;
-use acts::leaves::{line, wrap_parent};
-use acts::words::{ADD_ASSIGN, BRACE_OPEN, COLON, COMMA, SEMICOLON, word};
-use comments::pop_trailing_comment;
+use acts::leaves::{line, word, wrap_parent};
+use acts::words::Word;
+use comments::{Kept, pop_trailing_comment};
 use image::kinds;
 
 // Whether the block at `at` has no statements.
@@ -34,10 +33,7 @@ pub(crate) fn is_empty(b: &[u8], at: usize) -> bool
     requires in_image { InImage b.now (stop_at b.now (at + 13)) }
     ensures { result ≡ (eqb (stop_at b.now (at + 13)) (at + 13 + 13) && eqb (be32 b.now (stop_at b.now (at + 13))) 0) }
 {
-    if no_stmts(b, at) {
-        return is_absent(b, second(b, at));
-    }
-    false
+    no_stmts(b, at) && is_absent(b, second(b, at))
 }
 
 // How a block starts.
@@ -45,7 +41,7 @@ pub(crate) fn block_start(store: &mut [u32], c: Cursor, empty: bool) -> Cursor
     requires { Room (block_start empty) c }
     ensures { Laid (block_start empty) store.old c store.new result }
 {
-    let d = word(store, c, BRACE_OPEN);
+    let d = word(store, c, Word::BraceOpen);
     let e = line(store, d);
     if empty {
         return e;
@@ -67,10 +63,10 @@ pub(crate) fn before_stmt(
     ensures { Laid (before_stmt (given s.now b.now) first position) store.old c store.new result }
 {
     if first {
-        let d = gap(store, c, s, b, position, false, true, false);
+        let d = gap(store, c, s, b, position, &Kept::AFTER_COMMENTS);
         return line(store, d);
     }
-    let d = gap(store, c, s, b, position, true, true, true);
+    let d = gap(store, c, s, b, position, &Kept::ALL);
     line(store, d)
 }
 
@@ -80,7 +76,7 @@ pub(crate) fn after_stmt(store: &mut [u32], c: Cursor, s: &[u8], b: &[u8], posit
     requires room { Room (after_stmt (given s.now b.now) position) c }
     ensures { Laid (after_stmt (given s.now b.now) position) store.old c store.new result }
 {
-    let d = gap(store, c, s, b, position, false, false, false);
+    let d = gap(store, c, s, b, position, &Kept::NONE);
     pop_trailing_comment(store, d, s, b)
 }
 
@@ -93,7 +89,7 @@ pub(crate) fn arm_comma(store: &mut [u32], c: Cursor, b: &[u8], at: usize) -> Cu
     if kind(b, at) == kinds::BLOCK_EXPR {
         return c;
     }
-    word(store, c, COMMA)
+    word(store, c, Word::Comma)
 }
 
 // The semicolon after an expression, which is at `at`, unless it ends with a brace: block, match, if, while or for.
@@ -110,22 +106,12 @@ pub(crate) fn semicolon(store: &mut [u32], c: Cursor, b: &[u8], at: usize) -> Cu
         return c;
     }
     if k < kinds::IF_ELSE {
-        return word(store, c, SEMICOLON);
+        return word(store, c, Word::Semicolon);
     }
     if k <= kinds::FOR {
         return c;
     }
-    word(store, c, SEMICOLON)
-}
-
-// The place among the words of the symbol of the compound assignment at `at`.
-pub(crate) fn assign_word(b: &[u8], at: usize) -> usize
-    requires in_image { InImage b.now (at + 13) }
-    requires at_in_bounds { stop_at b.now (at + 13) + 14 ≤ length b.now }
-    requires at_bound { get_or b.now (stop_at b.now (at + 13) + 13) 0 < 5 }
-    ensures { get_or table result "" ≡ assign_symbol (get_or b.now (stop_at b.now (at + 13) + 13) 0) }
-{
-    ADD_ASSIGN + payload(b, second(b, at))
+    word(store, c, Word::Semicolon)
 }
 
 // The type of a `let`, where it is there.
@@ -136,6 +122,6 @@ pub(crate) fn let_type(store: &mut [u32], c: Cursor, s: &[u8], b: &[u8], at: usi
     if is_absent(b, at) {
         return c;
     }
-    let d = word(store, c, COLON);
+    let d = word(store, c, Word::Colon);
     type_expr(store, d, s, b, at)
 }

@@ -1,52 +1,31 @@
 // The parts of `binop` that lay no operand.
-ghost use Rattle.std.specs.Prelude.{◌≡◌, not, ◌&&◌, ◌+◌, ◌<◌, ◌≤◌, get_or, length};
+ghost use Rattle.std.specs.Prelude.{◌≡◌, not, ◌&&◌, ◌+◌, ◌≤◌, get_or, length};
 ghost use Rattle.image.specs.Read.{stop_at};
 ghost use Rattle.rows.specs.Node.{line_or_space};
-ghost use Rattle.rows.specs.Words.{table};
 ghost use Rattle.ast.specs.Syntax.{bin_op};
 ghost use Rattle.acts.specs.Act.{when, push};
 ghost use Rattle.acts.specs.Laid.{Room, Laid};
 ghost use Rattle.comments.specs.Comments.{whitespace};
-ghost use Rattle.layout.specs.Layout.{symbol, binop_precedence};
+ghost use Rattle.layout.specs.Layout.{binop_precedence};
 ghost use Rattle.layout.specs.Promises.{Has, LaidAs, InImage};
 ghost use Rattle.layout.specs.Forms.{OperatorAt, operator_rule};
 ghost use Rattle.layout.specs.Chains.{HasChain, Leftmost};
+ghost use Rattle.layout.specs.Ranks.{rank};
 
+use crate::forms::Precedence;
 use crate::numbers::{HEAD, kind, payload, second, start};
+use crate::operators::{binop_precedence, symbol};
 use acts::Cursor;
-use acts::leaves::line_or_space;
-use acts::words::{AND, MINUS, SPACE, word};
-use comments::{Gap, is_whitespace, pop_whitespace};
+use acts::leaves::{line_or_space, word};
+use acts::words::Word;
+use comments::{Gap, Kept, is_whitespace, pop_whitespace};
 use image::kinds;
 
-// `binop_precedence`, by the place in `BinOp`.
-const PRECEDENCES: [usize; 14] = [2, 1, 3, 3, 3, 3, 3, 3, 4, 4, 5, 5, 5, 6];
-
-fn binop_precedence(op: usize) -> usize
-    ensures { result ≡ binop_precedence op }
-{
-    if op < 14 { PRECEDENCES[op] } else { 0 }
-}
-
-// The place among the words of an operator's symbol. The minus is a word that is used elsewhere too, so it is not listed with the others.
-fn symbol(op: usize) -> usize
-    requires { op < 14 }
-    ensures { get_or table result "" ≡ symbol op }
-{
-    if op < 9 {
-        return AND + op;
-    }
-    if op == 9 {
-        return MINUS;
-    }
-    AND + op - 1
-}
-
 // The precedence of the operator at `at`.
-pub(crate) fn precedence(b: &[u8], at: usize) -> usize
+pub(crate) fn precedence(b: &[u8], at: usize) -> Precedence
     requires in_image { InImage b.now (at + 13) }
     requires at_in_bounds { stop_at b.now (at + 13) + 14 ≤ length b.now }
-    ensures { result ≡ binop_precedence (get_or b.now (stop_at b.now (at + 13) + 13) 0) }
+    ensures { rank result ≡ binop_precedence (get_or b.now (stop_at b.now (at + 13) + 13) 0) }
 {
     binop_precedence(payload(b, second(b, at)))
 }
@@ -78,22 +57,23 @@ pub(crate) fn operator(
     ensures { LaidAs OperatorAt (operator_rule first) s.now b.now at store.old c store.new result }
 {
     let k = symbol(payload(b, at));
-    let a = pop_whitespace(store, c, s, b, start(b, at), true, true, false);
+    let a = pop_whitespace(store, c, s, b, start(b, at), &Kept::AROUND_COMMENTS);
     let d = between(store, a.cursor, first, a.gap);
     let e = word(store, d, k);
-    word(store, e, SPACE)
+    word(store, e, Word::Space)
 }
 
 // The offset of the operand that starts the chain of operators of precedence q at `at`. The operators go onto the stack, the top first.
-pub(crate) fn leftmost(b: &[u8], at: usize, q: usize, ops: &mut [usize; 64]) -> usize
-    requires has_chain { HasChain b.now at q }
+// kept: document 01 wants an array of 64, and a loop that breaks with the offset.
+pub(crate) fn leftmost(b: &[u8], at: usize, q: Precedence, ops: &mut [usize; 64]) -> usize
+    requires has_chain { HasChain b.now at (rank q) }
     requires ops_len { length ops.old ≡ 64 }
-    ensures { Leftmost b.now at q ops.new result }
+    ensures { Leftmost b.now at (rank q) ops.new result }
 {
     ops[0] = at;
     let mut n = 1usize;
     let mut p = at + HEAD;
-    let left = loop {
+    loop {
         if kind(b, p) != kinds::BIN_OP {
             break p;
         }
@@ -101,8 +81,7 @@ pub(crate) fn leftmost(b: &[u8], at: usize, q: usize, ops: &mut [usize; 64]) -> 
             break p;
         }
         ops[n] = p;
-        n = n + 1;
-        p = p + HEAD;
-    };
-    left
+        n += 1;
+        p += HEAD;
+    }
 }

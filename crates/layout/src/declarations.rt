@@ -9,24 +9,23 @@ ghost use Rattle.comments.specs.Comments.{whitespace};
 ghost use Rattle.comments.specs.Listed.{given};
 ghost use Rattle.layout.specs.Layout.{opening, some_type_params, return_type, shebang_rule};
 ghost use Rattle.layout.specs.Promises.{Readable, Has, LaidAs, HasAll, LaidAll};
+ghost use Rattle.layout.specs.Elems.{VariantAt, variant_rule};
 ghost use Rattle.layout.specs.Forms.{two, three, four, five, OfDeclaration, declaration_rule, any_declaration, declares_at, MaybeListAt};
 ghost use Rattle.layout.specs.Forms.{MaybeTypeAt, MaybeIdentAt, declarations_from};
 
-use crate::forms::{ListForm, WrapStyle};
+use crate::forms::{BRACES, ListForm, WrapStyle};
 use crate::idents::type_params;
 use crate::imports::import_path;
+use crate::lists::separated;
 use crate::numbers::{HEAD, end, is_absent, kind, past, second, start, third};
 use crate::paths::ident;
 use crate::types::{params, record_type, type_expr};
-use crate::variants::separated;
+use crate::variants::variant;
 use crate::{block, expr};
 use acts::Cursor;
-use acts::leaves::{empty_line, line, str};
-use acts::words::{
-    ARROW, ASSIGN, BRACE_CLOSE, BRACE_OPEN, COLON, CONST, ENUM, FILTERMAP, FN, IMPORT, RECORD,
-    SEMICOLON, SPACE, TEST, word,
-};
-use comments::{Gap, is_whitespace, pop_whitespace};
+use acts::leaves::{empty_line, line, str, word};
+use acts::words::Word;
+use comments::{Gap, Kept, is_whitespace, pop_whitespace};
 use image::bytes::num16;
 use image::kinds;
 use rows::units::{Bytes, Columns};
@@ -52,18 +51,23 @@ fn opening(store: &mut [u32], c: Cursor, s: &[u8], b: &[u8], position: u32, firs
     requires room { Room (opening (given s.now b.now) position first) c }
     ensures { Laid (opening (given s.now b.now) position first) store.old c store.new result }
 {
-    let a = pop_whitespace(store, c, s, b, position, !first, true, !first);
+    let kept = Kept {
+        leading: !first,
+        only: !first,
+        ..Kept::AFTER_COMMENTS
+    };
+    let a = pop_whitespace(store, c, s, b, position, &kept);
     line_between(store, a.cursor, first, a.gap)
 }
 
-// The start of each declaration but `import`: the word at place k, and the name at `at`.
+// The start of each declaration but `import`: a word, and the name at `at`.
 fn declares(
     store: &mut [u32],
     c: Cursor,
     s: &[u8],
     b: &[u8],
     at: usize,
-    k: usize,
+    k: Word,
     first: bool,
 ) -> Cursor
     requires { Has IdentAt (declares_at k first) s.now b.now at c }
@@ -96,9 +100,9 @@ fn return_type(store: &mut [u32], c: Cursor, s: &[u8], b: &[u8], at: usize) -> C
     if is_absent(b, at) {
         return c;
     }
-    let d = word(store, c, ARROW);
+    let d = word(store, c, Word::Arrow);
     let e = type_expr(store, d, s, b, at);
-    word(store, e, SPACE)
+    word(store, e, Word::Space)
 }
 
 fn filter_map(store: &mut [u32], c: Cursor, s: &[u8], b: &[u8], at: usize, first: bool) -> Cursor
@@ -107,9 +111,9 @@ fn filter_map(store: &mut [u32], c: Cursor, s: &[u8], b: &[u8], at: usize, first
 {
     let p = second(b, at);
     let q = third(b, at);
-    let d = declares(store, c, s, b, at + HEAD, FILTERMAP, first);
+    let d = declares(store, c, s, b, at + HEAD, Word::FilterMap, first);
     let e = params(store, d, s, b, p);
-    let f = word(store, e, SPACE);
+    let f = word(store, e, Word::Space);
     block(store, f, s, b, q)
 }
 
@@ -119,12 +123,12 @@ fn constant(store: &mut [u32], c: Cursor, s: &[u8], b: &[u8], at: usize, first: 
 {
     let p = second(b, at);
     let q = third(b, at);
-    let d = declares(store, c, s, b, at + HEAD, CONST, first);
-    let e = word(store, d, COLON);
+    let d = declares(store, c, s, b, at + HEAD, Word::Const, first);
+    let e = word(store, d, Word::Colon);
     let f = type_expr(store, e, s, b, p);
-    let g = word(store, f, ASSIGN);
+    let g = word(store, f, Word::Assign);
     let h = expr(store, g, s, b, q);
-    word(store, h, SEMICOLON)
+    word(store, h, Word::Semicolon)
 }
 
 fn decl_record(store: &mut [u32], c: Cursor, s: &[u8], b: &[u8], at: usize, first: bool) -> Cursor
@@ -133,9 +137,9 @@ fn decl_record(store: &mut [u32], c: Cursor, s: &[u8], b: &[u8], at: usize, firs
 {
     let p = second(b, at);
     let q = third(b, at);
-    let d = declares(store, c, s, b, at + HEAD, RECORD, first);
+    let d = declares(store, c, s, b, at + HEAD, Word::Record, first);
     let e = some_type_params(store, d, s, b, p);
-    let f = word(store, e, SPACE);
+    let f = word(store, e, Word::Space);
     record_type(store, f, s, b, q, WrapStyle::Wrap)
 }
 
@@ -145,16 +149,18 @@ fn decl_enum(store: &mut [u32], c: Cursor, s: &[u8], b: &[u8], at: usize, first:
 {
     let p = second(b, at);
     let q = third(b, at);
-    let d = declares(store, c, s, b, at + HEAD, ENUM, first);
+    let d = declares(store, c, s, b, at + HEAD, Word::Enum, first);
     let e = some_type_params(store, d, s, b, p);
-    let f = word(store, e, SPACE);
+    let f = word(store, e, Word::Space);
     let form = ListForm {
-        left: BRACE_OPEN,
-        right: BRACE_CLOSE,
-        commas: true,
         style: WrapStyle::Wrap,
+        ..BRACES
     };
-    separated(store, f, s, b, q, end(b, q), form)
+    let item = |rows: &mut [u32], g: Cursor, r: usize| -> Cursor
+        requires { Has VariantAt variant_rule s.now b.now r g }
+        ensures { LaidAs VariantAt variant_rule s.entry.now b.entry.now r rows.old g rows.new result }
+    { variant(rows, g, s, b, r) };
+    separated(store, f, s, b, q, end(b, q), form, item)
 }
 
 fn function(store: &mut [u32], c: Cursor, s: &[u8], b: &[u8], at: usize, first: bool) -> Cursor
@@ -163,9 +169,9 @@ fn function(store: &mut [u32], c: Cursor, s: &[u8], b: &[u8], at: usize, first: 
 {
     let p = second(b, at);
     let q = third(b, at);
-    let d = declares(store, c, s, b, at + HEAD, FN, first);
+    let d = declares(store, c, s, b, at + HEAD, Word::Fn, first);
     let e = params(store, d, s, b, p);
-    let f = word(store, e, SPACE);
+    let f = word(store, e, Word::Space);
     let g = return_type(store, f, s, b, q);
     block(store, g, s, b, past(b, q))
 }
@@ -175,8 +181,8 @@ fn test(store: &mut [u32], c: Cursor, s: &[u8], b: &[u8], at: usize, first: bool
     ensures { LaidAs (OfDeclaration (two test)) (declaration_rule (two test) first) s.now b.now at store.old c store.new result }
 {
     let p = second(b, at);
-    let d = declares(store, c, s, b, at + HEAD, TEST, first);
-    let e = word(store, d, SPACE);
+    let d = declares(store, c, s, b, at + HEAD, Word::Test, first);
+    let e = word(store, d, Word::Space);
     block(store, e, s, b, p)
 }
 
@@ -185,9 +191,9 @@ fn decl_import(store: &mut [u32], c: Cursor, s: &[u8], b: &[u8], at: usize, firs
     ensures { LaidAs (OfDeclaration import_decl) (declaration_rule import_decl first) s.now b.now at store.old c store.new result }
 {
     let d = opening(store, c, s, b, start(b, at), first);
-    let e = word(store, d, IMPORT);
+    let e = word(store, d, Word::Import);
     let f = import_path(store, e, s, b, at);
-    word(store, f, SEMICOLON)
+    word(store, f, Word::Semicolon)
 }
 
 // The declaration at `at`, which is the file's first or not.
@@ -244,6 +250,7 @@ pub fn declarations(
     let mut p = from;
     let mut d = c;
     let mut first = opens;
+    // kept: an iterator over records must prove by itself that it ends and that each record lies in the image, which the loop's invariant says already.
     while p < to {
         d = declaration(store, d, s, b, p, first);
         p = past(b, p);

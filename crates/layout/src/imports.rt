@@ -7,15 +7,15 @@ ghost use Rattle.acts.specs.Act.{when, says};
 ghost use Rattle.acts.specs.Laid.{Room, Laid};
 ghost use Rattle.layout.specs.Layout.{import_first, import_path, import_group};
 ghost use Rattle.layout.specs.Promises.{Has, LaidAs, InImage, Whole};
-ghost use Rattle.layout.specs.Elems.{ImportElem, HasList, LaidList};
 ghost use Rattle.layout.specs.Forms.{MaybePathAt};
 
-use crate::forms::{BRACES, ListForm};
-use crate::numbers::{HEAD, end, is_absent, past, second, start};
+use crate::forms::BRACES;
+use crate::lists::separated;
+use crate::numbers::{HEAD, end, is_absent, past, second};
 use crate::paths::path;
-use crate::pieces::{before_elem, begin_list, empty_list, finish_list};
 use acts::Cursor;
-use acts::words::{DOT, word};
+use acts::leaves::word;
+use acts::words::Word;
 
 // The path of an import, where there is one.
 fn import_first(store: &mut [u32], c: Cursor, s: &[u8], b: &[u8], at: usize) -> Cursor
@@ -41,7 +41,7 @@ fn import_dot(store: &mut [u32], c: Cursor, b: &[u8], from: usize, at: usize) ->
     if is_absent(b, at) {
         return c;
     }
-    word(store, c, DOT)
+    word(store, c, Word::Dot)
 }
 
 // Whether the list at `at` has one element.
@@ -51,10 +51,7 @@ fn is_single(b: &[u8], at: usize) -> bool
     ensures { result ≡ (not (eqb (stop_at b.now at) (at + 13)) && eqb (stop_at b.now (at + 13)) (stop_at b.now at)) }
 {
     let to = past(b, at);
-    if at + HEAD == to {
-        return false;
-    }
-    past(b, at + HEAD) == to
+    at + HEAD != to && past(b, at + HEAD) == to
 }
 
 #[cycle(import)]
@@ -80,36 +77,9 @@ fn import_group(store: &mut [u32], c: Cursor, s: &[u8], b: &[u8], at: usize) -> 
     if is_single(b, at) {
         return import_path(store, c, s, b, at + HEAD);
     }
-    separated(store, c, s, b, at, end(b, at), BRACES)
-}
-
-// `separated` over imports: the list at `at`, whose span ends at `to`.
-#[cycle(import)]
-fn separated(
-    store: &mut [u32],
-    c: Cursor,
-    s: &[u8],
-    b: &[u8],
-    at: usize,
-    to: u32,
-    form: ListForm,
-) -> Cursor
-    requires { HasList ImportElem form to s.now b.now at c }
-    ensures { LaidList ImportElem form to s.now b.now at store.old c store.new result }
-{
-    let last = past(b, at);
-    if at + HEAD == last {
-        return empty_list(store, c, s, b, to, form);
-    }
-    let i = begin_list(store, c, form);
-    let mut p = at + HEAD;
-    let mut d = i;
-    let mut first = true;
-    while p < last {
-        d = before_elem(store, d, s, b, start(b, p), first, form.commas);
-        d = import_path(store, d, s, b, p);
-        p = past(b, p);
-        first = false;
-    }
-    finish_list(store, d, s, b, c, i, to, form)
+    let item = |rows: &mut [u32], d: Cursor, p: usize| -> Cursor
+        requires { Has ImportAt import_path s.now b.now p d }
+        ensures { LaidAs ImportAt import_path s.entry.now b.entry.now p rows.old d rows.new result }
+    { import_path(rows, d, s, b, p) };
+    separated(store, c, s, b, at, end(b, at), BRACES, item)
 }

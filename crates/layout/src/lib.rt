@@ -8,8 +8,10 @@ pub mod declarations;
 pub mod forms;
 mod idents;
 mod imports;
+mod lists;
 mod literals;
 pub mod numbers;
+mod operators;
 mod paths;
 mod pieces;
 mod types;
@@ -17,97 +19,42 @@ mod variants;
 
 ghost use Rattle.std.specs.Prelude.{◌≡◌, true, ◌+◌};
 ghost use Rattle.image.specs.Kinds.{LIST, RECORD_FIELDS};
-ghost use Rattle.ast.specs.Syntax.{return', match', function_call, access, bin_op, if_else, for, f_string, parentheses};
+ghost use Rattle.ast.specs.Syntax.{return', match', function_call, access, list, bin_op, if_else, for, f_string, parentheses};
 ghost use Rattle.tree.specs.At.{ExprAt, ExprsAt, EntriesAt, MaybeExprAt, PartsAt, BlockAt, StmtsAt, StmtAt};
 ghost use Rattle.layout.specs.Layout.{expr_rule, parts_rule, block_rule, stmt_rule};
 ghost use Rattle.layout.specs.Promises.{Has, LaidAs, HasAll, LaidAll};
-ghost use Rattle.layout.specs.Elems.{EntryAt, entry_rule, ArmAt, arm_rule, ExprElem, elem_rule, HasList, LaidList, ListWith, args_rule, entries_rule};
+ghost use Rattle.layout.specs.Elems.{EntryAt, entry_rule, ArmAt, arm_rule, grouped_rule, ListWith, args_rule, entries_rule};
 ghost use Rattle.layout.specs.Forms.{two, three, four, expr_with, form_with, Of, form_rule, after_word, maybe_after, ClauseAt};
 ghost use Rattle.layout.specs.Forms.{clause_rule, PartAt, part_rule, stmts_from, last_from, LetAt, let_rule};
+ghost use Rattle.layout.specs.Ranks.{rank};
 ghost use Rattle.layout.specs.Chains.{HasTail, LaidTail};
 
 use crate::blocks::{
-    after_stmt, arm_comma, assign_word, before_stmt, block_start, is_empty, let_type, no_stmts,
-    semicolon,
+    after_stmt, arm_comma, before_stmt, block_start, is_empty, let_type, no_stmts, semicolon,
 };
 use crate::chains::{leftmost, operator, precedence};
-use crate::forms::{
-    BOTTOM, BRACKETS, CHAIN, ExprElement, GROUPED, ListForm, PARENS, UNIT_PRECEDENCE, WrapStyle,
-};
+use crate::forms::{BRACES, BRACKETS, ListForm, PARENS, Precedence, WrapStyle};
 use crate::idents::pattern;
 use crate::imports::import_path;
+use crate::lists::separated;
 use crate::literals::{content, literal};
-use crate::numbers::{HEAD, end, is_absent, kind, past, payload, second, start, third};
+use crate::numbers::{HEAD, end, is_absent, kind, past, second, start, third};
+use crate::operators::{assign_word, return_word};
 use crate::paths::{field_name, ident, path};
-use crate::pieces::{before_elem, begin_list, empty_list, finish_list, gap};
+use crate::pieces::gap;
 use acts::Cursor;
-use acts::leaves::{line, line_or_space};
+use acts::leaves::{line, line_or_space, word};
 use acts::parts::{close, open_call, open_group, open_indent, open_indent_next, set_second};
-use acts::words::{
-    ASSIGN, BRACE_CLOSE, BRACE_OPEN, COLON, ELSE, F_QUOTE, FAT_ARROW, FOR, GUARD, IF, IMPORT, IN,
-    LET, MATCH, MINUS, NOT, PAREN_CLOSE, PAREN_OPEN, QUESTION, QUOTE, RETURN, SEMICOLON, SPACE,
-    WHILE, word,
-};
-use comments::pop_trailing_comment;
+use acts::words::Word;
+use comments::{Kept, pop_trailing_comment};
 use image::kinds;
-
-// `separated` over expressions, fields of records or arms: the list at `at`, whose span ends at `to`.
-#[cycle(expr)]
-fn separated(
-    store: &mut [u32],
-    c: Cursor,
-    s: &[u8],
-    b: &[u8],
-    at: usize,
-    to: u32,
-    form: ListForm,
-    k: ExprElement,
-) -> Cursor
-    requires { HasList (ExprElem k) form to s.now b.now at c }
-    ensures { LaidList (ExprElem k) form to s.now b.now at store.old c store.new result }
-{
-    let last = past(b, at);
-    if at + HEAD == last {
-        return empty_list(store, c, s, b, to, form);
-    }
-    let i = begin_list(store, c, form);
-    let mut p = at + HEAD;
-    let mut d = i;
-    let mut first = true;
-    while p < last {
-        d = before_elem(store, d, s, b, start(b, p), first, form.commas);
-        d = elem(store, d, s, b, p, k);
-        p = past(b, p);
-        first = false;
-    }
-    finish_list(store, d, s, b, c, i, to, form)
-}
-
-// An element by its kind: the closures given to `separated`.
-#[cycle(expr)]
-fn elem(store: &mut [u32], c: Cursor, s: &[u8], b: &[u8], at: usize, k: ExprElement) -> Cursor
-    requires { Has (ExprElem k) elem_rule s.now b.now at c }
-    ensures { LaidAs (ExprElem k) elem_rule s.now b.now at store.old c store.new result }
-{
-    match k {
-        ExprElement::Expr => expr(store, c, s, b, at),
-        ExprElement::Grouped => {
-            let g = open_group(store, c);
-            let d = expr(store, g, s, b, at);
-            close(store, c.row, d);
-            d
-        }
-        ExprElement::Entry => entry(store, c, s, b, at),
-        ExprElement::Arm => arm(store, c, s, b, at),
-    }
-}
 
 #[cycle(expr)]
 pub(crate) fn expr(store: &mut [u32], c: Cursor, s: &[u8], b: &[u8], at: usize) -> Cursor
     requires { Has ExprAt expr_rule s.now b.now at c }
     ensures { LaidAs ExprAt expr_rule s.now b.now at store.old c store.new result }
 {
-    expr_with_precedence(store, c, s, b, at, BOTTOM)
+    expr_with_precedence(store, c, s, b, at, Precedence::Bottom)
 }
 
 // Each expression ends with `pop_trailing_comment`.
@@ -118,10 +65,10 @@ fn expr_with_precedence(
     s: &[u8],
     b: &[u8],
     at: usize,
-    outer: usize,
+    outer: Precedence,
 ) -> Cursor
-    requires { Has ExprAt (expr_with outer) s.now b.now at c }
-    ensures { LaidAs ExprAt (expr_with outer) s.now b.now at store.old c store.new result }
+    requires { Has ExprAt (expr_with (rank outer)) s.now b.now at c }
+    ensures { LaidAs ExprAt (expr_with (rank outer)) s.now b.now at store.old c store.new result }
 {
     let d = form(store, c, s, b, at, outer);
     pop_trailing_comment(store, d, s, b)
@@ -129,9 +76,9 @@ fn expr_with_precedence(
 
 // `expr_with_precedence`, its `match`: an expression by its form.
 #[cycle(expr)]
-fn form(store: &mut [u32], c: Cursor, s: &[u8], b: &[u8], at: usize, outer: usize) -> Cursor
-    requires { Has ExprAt (form_with outer) s.now b.now at c }
-    ensures { LaidAs ExprAt (form_with outer) s.now b.now at store.old c store.new result }
+fn form(store: &mut [u32], c: Cursor, s: &[u8], b: &[u8], at: usize, outer: Precedence) -> Cursor
+    requires { Has ExprAt (form_with (rank outer)) s.now b.now at c }
+    ensures { LaidAs ExprAt (form_with (rank outer)) s.now b.now at store.old c store.new result }
 {
     match kind(b, at) {
         kinds::RETURN => ret(store, c, s, b, at),
@@ -140,31 +87,47 @@ fn form(store: &mut [u32], c: Cursor, s: &[u8], b: &[u8], at: usize, outer: usiz
         kinds::MATCH => match_expr(store, c, s, b, at),
         kinds::FUNCTION_CALL => call(store, c, s, b, at, outer),
         kinds::ACCESS => access(store, c, s, b, at, outer),
-        kinds::PATH_EXPR => path(store, c, s, b, at + HEAD, outer < CHAIN, true),
+        kinds::PATH_EXPR => path(store, c, s, b, at + HEAD, outer < Precedence::Chain, true),
         kinds::RECORD_EXPR => record(store, c, s, b, at + HEAD),
         kinds::TYPED_RECORD => {
             let d = path(store, c, s, b, at + HEAD, true, true);
-            let e = word(store, d, SPACE);
+            let e = word(store, d, Word::Space);
             record(store, e, s, b, second(b, at))
         }
-        kinds::LIST_EXPR => separated(store, c, s, b, at + HEAD, end(b, at), BRACKETS, GROUPED),
-        kinds::NOT => after(store, c, s, b, at + HEAD, NOT, UNIT_PRECEDENCE),
+        kinds::LIST_EXPR => list(store, c, s, b, at),
+        kinds::NOT => after(store, c, s, b, at + HEAD, Word::Not, Precedence::Unit),
         kinds::ASSIGN => {
             let d = path(store, c, s, b, at + HEAD, true, true);
-            after(store, d, s, b, second(b, at), ASSIGN, BOTTOM)
+            after(
+                store,
+                d,
+                s,
+                b,
+                second(b, at),
+                Word::Assign,
+                Precedence::Bottom,
+            )
         }
         kinds::COMPOUND_ASSIGN => {
             let d = path(store, c, s, b, at + HEAD, true, true);
-            after(store, d, s, b, third(b, at), assign_word(b, at), BOTTOM)
+            after(
+                store,
+                d,
+                s,
+                b,
+                third(b, at),
+                assign_word(b, at),
+                Precedence::Bottom,
+            )
         }
         kinds::BIN_OP => binop(store, c, s, b, at),
-        kinds::NEGATE => after(store, c, s, b, at + HEAD, MINUS, BOTTOM),
+        kinds::NEGATE => after(store, c, s, b, at + HEAD, Word::Minus, Precedence::Bottom),
         kinds::IF_ELSE => if_else(store, c, s, b, at),
-        kinds::WHILE => cond(store, c, s, b, at + HEAD, WHILE),
+        kinds::WHILE => cond(store, c, s, b, at + HEAD, Word::While),
         kinds::FOR => each(store, c, s, b, at),
         kinds::QUESTION_MARK => {
             let d = expr_with_precedence(store, c, s, b, at + HEAD, outer);
-            word(store, d, QUESTION)
+            word(store, d, Word::Question)
         }
         kinds::F_STRING => fstr(store, c, s, b, at),
         _ => par(store, c, s, b, at),
@@ -179,11 +142,11 @@ fn after(
     s: &[u8],
     b: &[u8],
     at: usize,
-    k: usize,
-    outer: usize,
+    k: Word,
+    outer: Precedence,
 ) -> Cursor
-    requires { Has ExprAt (after_word k outer) s.now b.now at c }
-    ensures { LaidAs ExprAt (after_word k outer) s.now b.now at store.old c store.new result }
+    requires { Has ExprAt (after_word k (rank outer)) s.now b.now at c }
+    ensures { LaidAs ExprAt (after_word k (rank outer)) s.now b.now at store.old c store.new result }
 {
     let d = word(store, c, k);
     expr_with_precedence(store, d, s, b, at, outer)
@@ -191,19 +154,19 @@ fn after(
 
 // The same, where the expression is there: the value of a `return`, the guard of an arm.
 #[cycle(expr)]
-fn maybe(store: &mut [u32], c: Cursor, s: &[u8], b: &[u8], at: usize, k: usize) -> Cursor
+fn maybe(store: &mut [u32], c: Cursor, s: &[u8], b: &[u8], at: usize, k: Word) -> Cursor
     requires { Has MaybeExprAt (maybe_after k) s.now b.now at c }
     ensures { LaidAs MaybeExprAt (maybe_after k) s.now b.now at store.old c store.new result }
 {
     if is_absent(b, at) {
         return c;
     }
-    after(store, c, s, b, at, k, BOTTOM)
+    after(store, c, s, b, at, k, Precedence::Bottom)
 }
 
 // `expr_with_precedence`: the condition of `if`, `while` and `for`, after its word, and the block after it.
 #[cycle(expr)]
-fn cond(store: &mut [u32], c: Cursor, s: &[u8], b: &[u8], at: usize, k: usize) -> Cursor
+fn cond(store: &mut [u32], c: Cursor, s: &[u8], b: &[u8], at: usize, k: Word) -> Cursor
     requires { Has ClauseAt (clause_rule k) s.now b.now at c }
     ensures { LaidAs ClauseAt (clause_rule k) s.now b.now at store.old c store.new result }
 {
@@ -213,7 +176,7 @@ fn cond(store: &mut [u32], c: Cursor, s: &[u8], b: &[u8], at: usize, k: usize) -
     let e = expr(store, i, s, b, at);
     close(store, g.row, e);
     close(store, d.row, e);
-    let f = word(store, e, SPACE);
+    let f = word(store, e, Word::Space);
     block(store, f, s, b, past(b, at))
 }
 
@@ -223,9 +186,8 @@ fn ret(store: &mut [u32], c: Cursor, s: &[u8], b: &[u8], at: usize) -> Cursor
     requires { Has (Of (two return')) (form_rule (two return') 0) s.now b.now at c }
     ensures { LaidAs (Of (two return')) (form_rule (two return') 0) s.now b.now at store.old c store.new result }
 {
-    let k = payload(b, at);
-    let d = word(store, c, RETURN + k);
-    maybe(store, d, s, b, at + 14, SPACE)
+    let d = word(store, c, return_word(b, at));
+    maybe(store, d, s, b, at + 14, Word::Space)
 }
 
 // `r#match`
@@ -235,16 +197,44 @@ fn match_expr(store: &mut [u32], c: Cursor, s: &[u8], b: &[u8], at: usize) -> Cu
     ensures { LaidAs (Of (three match')) (form_rule (three match') 0) s.now b.now at store.old c store.new result }
 {
     let p = second(b, at);
-    let d = word(store, c, MATCH);
+    let d = word(store, c, Word::Match);
     let e = expr(store, d, s, b, at + HEAD);
-    let f = word(store, e, SPACE);
+    let f = word(store, e, Word::Space);
     let form = ListForm {
-        left: BRACE_OPEN,
-        right: BRACE_CLOSE,
         commas: false,
         style: WrapStyle::Wrap,
+        ..BRACES
     };
-    separated(store, f, s, b, p, end(b, p), form, ExprElement::Arm)
+    let one_arm = |rows: &mut [u32], g: Cursor, q: usize| -> Cursor
+        requires { Has ArmAt arm_rule s.now b.now q g }
+        ensures { LaidAs ArmAt arm_rule s.entry.now b.entry.now q rows.old g rows.new result }
+    { arm(rows, g, s, b, q) };
+    separated(store, f, s, b, p, end(b, p), form, one_arm)
+}
+
+// `expr_with_precedence`, the arm of `List`.
+#[cycle(expr)]
+fn list(store: &mut [u32], c: Cursor, s: &[u8], b: &[u8], at: usize) -> Cursor
+    requires { Has (Of list) (form_rule list 0) s.now b.now at c }
+    ensures { LaidAs (Of list) (form_rule list 0) s.now b.now at store.old c store.new result }
+{
+    let element = |rows: &mut [u32], d: Cursor, p: usize| -> Cursor
+        requires { Has ExprAt grouped_rule s.now b.now p d }
+        ensures { LaidAs ExprAt grouped_rule s.entry.now b.entry.now p rows.old d rows.new result }
+    { grouped(rows, d, s, b, p) };
+    separated(store, c, s, b, at + HEAD, end(b, at), BRACKETS, element)
+}
+
+// The closure of a list: an element, in a group of its own.
+#[cycle(expr)]
+fn grouped(store: &mut [u32], c: Cursor, s: &[u8], b: &[u8], at: usize) -> Cursor
+    requires { Has ExprAt grouped_rule s.now b.now at c }
+    ensures { LaidAs ExprAt grouped_rule s.now b.now at store.old c store.new result }
+{
+    let g = open_group(store, c);
+    let d = expr(store, g, s, b, at);
+    close(store, c.row, d);
+    d
 }
 
 // The closure of `r#match`: an arm.
@@ -256,28 +246,28 @@ fn arm(store: &mut [u32], c: Cursor, s: &[u8], b: &[u8], at: usize) -> Cursor
     let p = second(b, at);
     let q = third(b, at);
     let d = pattern(store, c, s, b, at + HEAD);
-    let e = maybe(store, d, s, b, p, GUARD);
-    let f = word(store, e, FAT_ARROW);
+    let e = maybe(store, d, s, b, p, Word::Guard);
+    let f = word(store, e, Word::FatArrow);
     let g = expr(store, f, s, b, q);
     arm_comma(store, g, b, q)
 }
 
 // `expr_with_precedence`, the arm of `FunctionCall`, whose precedence is `Chain`. The numbers of its `Call` row are taken before its parts.
 #[cycle(expr)]
-fn call(store: &mut [u32], c: Cursor, s: &[u8], b: &[u8], at: usize, outer: usize) -> Cursor
-    requires { Has (Of (three function_call)) (form_rule (three function_call) outer) s.now b.now at c }
-    ensures { LaidAs (Of (three function_call)) (form_rule (three function_call) outer) s.now b.now at store.old c store.new result }
+fn call(store: &mut [u32], c: Cursor, s: &[u8], b: &[u8], at: usize, outer: Precedence) -> Cursor
+    requires { Has (Of (three function_call)) (form_rule (three function_call) (rank outer)) s.now b.now at c }
+    ensures { LaidAs (Of (three function_call)) (form_rule (three function_call) (rank outer)) s.now b.now at store.old c store.new result }
 {
     let p = second(b, at);
-    if outer < CHAIN {
+    if outer < Precedence::Chain {
         let i = open_call(store, c);
-        let d = expr_with_precedence(store, i, s, b, at + HEAD, CHAIN);
+        let d = expr_with_precedence(store, i, s, b, at + HEAD, Precedence::Chain);
         let e = function_args(store, d, s, b, p);
         set_second(store, c.row, d);
         close(store, c.row, e);
         return e;
     }
-    let d = expr_with_precedence(store, c, s, b, at + HEAD, CHAIN);
+    let d = expr_with_precedence(store, c, s, b, at + HEAD, Precedence::Chain);
     function_args(store, d, s, b, p)
 }
 
@@ -286,26 +276,30 @@ fn function_args(store: &mut [u32], c: Cursor, s: &[u8], b: &[u8], at: usize) ->
     requires { Has (ListWith LIST ExprsAt) args_rule s.now b.now at c }
     ensures { LaidAs (ListWith LIST ExprsAt) args_rule s.now b.now at store.old c store.new result }
 {
-    separated(store, c, s, b, at, end(b, at), PARENS, ExprElement::Expr)
+    let argument = |rows: &mut [u32], d: Cursor, p: usize| -> Cursor
+        requires { Has ExprAt expr_rule s.now b.now p d }
+        ensures { LaidAs ExprAt expr_rule s.entry.now b.entry.now p rows.old d rows.new result }
+    { expr(rows, d, s, b, p) };
+    separated(store, c, s, b, at, end(b, at), PARENS, argument)
 }
 
 // `access`, and the arm of `Access`, whose precedence is `Chain`.
 #[cycle(expr)]
-fn access(store: &mut [u32], c: Cursor, s: &[u8], b: &[u8], at: usize, outer: usize) -> Cursor
-    requires { Has (Of (two access)) (form_rule (two access) outer) s.now b.now at c }
-    ensures { LaidAs (Of (two access)) (form_rule (two access) outer) s.now b.now at store.old c store.new result }
+fn access(store: &mut [u32], c: Cursor, s: &[u8], b: &[u8], at: usize, outer: Precedence) -> Cursor
+    requires { Has (Of (two access)) (form_rule (two access) (rank outer)) s.now b.now at c }
+    ensures { LaidAs (Of (two access)) (form_rule (two access) (rank outer)) s.now b.now at store.old c store.new result }
 {
     let p = second(b, at);
-    if outer < CHAIN {
+    if outer < Precedence::Chain {
         let g = open_group(store, c);
         let i = open_indent_next(store, g);
-        let d = expr_with_precedence(store, i, s, b, at + HEAD, CHAIN);
+        let d = expr_with_precedence(store, i, s, b, at + HEAD, Precedence::Chain);
         let e = field_name(store, d, s, b, p);
         close(store, g.row, e);
         close(store, c.row, e);
         return e;
     }
-    let d = expr_with_precedence(store, c, s, b, at + HEAD, CHAIN);
+    let d = expr_with_precedence(store, c, s, b, at + HEAD, Precedence::Chain);
     field_name(store, d, s, b, p)
 }
 
@@ -315,12 +309,14 @@ fn record(store: &mut [u32], c: Cursor, s: &[u8], b: &[u8], at: usize) -> Cursor
     ensures { LaidAs (ListWith RECORD_FIELDS EntriesAt) entries_rule s.now b.now at store.old c store.new result }
 {
     let form = ListForm {
-        left: BRACE_OPEN,
-        right: BRACE_CLOSE,
-        commas: true,
         style: WrapStyle::Spaced,
+        ..BRACES
     };
-    separated(store, c, s, b, at, end(b, at), form, ExprElement::Entry)
+    let named = |rows: &mut [u32], d: Cursor, p: usize| -> Cursor
+        requires { Has EntryAt entry_rule s.now b.now p d }
+        ensures { LaidAs EntryAt entry_rule s.entry.now b.entry.now p rows.old d rows.new result }
+    { entry(rows, d, s, b, p) };
+    separated(store, c, s, b, at, end(b, at), form, named)
 }
 
 // The closure of `record`: a name and its value.
@@ -331,7 +327,7 @@ fn entry(store: &mut [u32], c: Cursor, s: &[u8], b: &[u8], at: usize) -> Cursor
 {
     let p = second(b, at);
     let d = ident(store, c, s, b, at + HEAD);
-    let e = word(store, d, COLON);
+    let e = word(store, d, Word::Colon);
     expr(store, e, s, b, p)
 }
 
@@ -368,11 +364,9 @@ fn tail(
     requires { HasTail s.now b.now at left ops.now c }
     ensures { LaidTail s.now b.now at left ops.now store.old c store.new result }
 {
-    let mut n = (left - at) / HEAD;
     let mut d = c;
     let mut first = true;
-    while n > 0 {
-        n = n - 1;
+    for n in (0..(left - at) / HEAD).rev() {
         let p = ops[n];
         d = operator(store, d, s, b, second(b, p), first);
         d = expr(store, d, s, b, third(b, p));
@@ -388,11 +382,11 @@ fn if_else(store: &mut [u32], c: Cursor, s: &[u8], b: &[u8], at: usize) -> Curso
     ensures { LaidAs (Of (three if_else)) (form_rule (three if_else) 0) s.now b.now at store.old c store.new result }
 {
     let p = third(b, at);
-    let d = cond(store, c, s, b, at + HEAD, IF);
+    let d = cond(store, c, s, b, at + HEAD, Word::If);
     if is_absent(b, p) {
         return d;
     }
-    let e = word(store, d, ELSE);
+    let e = word(store, d, Word::Else);
     block(store, e, s, b, p)
 }
 
@@ -403,9 +397,9 @@ fn each(store: &mut [u32], c: Cursor, s: &[u8], b: &[u8], at: usize) -> Cursor
     ensures { LaidAs (Of (three for)) (form_rule (three for) 0) s.now b.now at store.old c store.new result }
 {
     let p = second(b, at);
-    let d = word(store, c, FOR);
+    let d = word(store, c, Word::For);
     let e = ident(store, d, s, b, at + HEAD);
-    cond(store, e, s, b, p, IN)
+    cond(store, e, s, b, p, Word::In)
 }
 
 // `expr_with_precedence`, the arm of `FString`.
@@ -414,10 +408,10 @@ fn fstr(store: &mut [u32], c: Cursor, s: &[u8], b: &[u8], at: usize) -> Cursor
     requires { Has (Of f_string) (form_rule f_string 0) s.now b.now at c }
     ensures { LaidAs (Of f_string) (form_rule f_string 0) s.now b.now at store.old c store.new result }
 {
-    let d = gap(store, c, s, b, start(b, at), true, true, false);
-    let e = word(store, d, F_QUOTE);
+    let d = gap(store, c, s, b, start(b, at), &Kept::AROUND_COMMENTS);
+    let e = word(store, d, Word::FQuote);
     let f = parts(store, e, s, b, at + HEAD + HEAD, second(b, at));
-    word(store, f, QUOTE)
+    word(store, f, Word::Quote)
 }
 
 // The arm of `FString`, its loop: the parts, from `from` up to `to`.
@@ -428,6 +422,7 @@ fn parts(store: &mut [u32], c: Cursor, s: &[u8], b: &[u8], from: usize, to: usiz
 {
     let mut p = from;
     let mut d = c;
+    // kept: an iterator over records must prove by itself that it ends and that each record lies in the image, which the loop's invariant says already.
     while p < to {
         d = part(store, d, s, b, p);
         p = past(b, p);
@@ -444,9 +439,9 @@ fn part(store: &mut [u32], c: Cursor, s: &[u8], b: &[u8], at: usize) -> Cursor
     if kind(b, at) == kinds::TEXT_PART {
         return content(store, c, s, b, at);
     }
-    let d = word(store, c, BRACE_OPEN);
+    let d = word(store, c, Word::BraceOpen);
     let e = expr(store, d, s, b, at + HEAD);
-    word(store, e, BRACE_CLOSE)
+    word(store, e, Word::BraceClose)
 }
 
 // `expr_with_precedence`, the arm of `Parentheses`.
@@ -455,10 +450,10 @@ fn par(store: &mut [u32], c: Cursor, s: &[u8], b: &[u8], at: usize) -> Cursor
     requires { Has (Of parentheses) (form_rule parentheses 0) s.now b.now at c }
     ensures { LaidAs (Of parentheses) (form_rule parentheses 0) s.now b.now at store.old c store.new result }
 {
-    let d = gap(store, c, s, b, start(b, at), true, true, false);
-    let e = word(store, d, PAREN_OPEN);
+    let d = gap(store, c, s, b, start(b, at), &Kept::AROUND_COMMENTS);
+    let e = word(store, d, Word::ParenOpen);
     let f = expr(store, e, s, b, at + HEAD);
-    word(store, f, PAREN_CLOSE)
+    word(store, f, Word::ParenClose)
 }
 
 #[cycle(expr)]
@@ -474,10 +469,14 @@ fn block(store: &mut [u32], c: Cursor, s: &[u8], b: &[u8], at: usize) -> Cursor
     let i = open_indent(store, d);
     let e = stmts(store, i, s, b, at + HEAD + HEAD, p);
     let f = last(store, e, s, b, p, none);
-    let h = gap(store, f, s, b, end(b, at), !empty, false, false);
+    let kept = Kept {
+        leading: !empty,
+        ..Kept::NONE
+    };
+    let h = gap(store, f, s, b, end(b, at), &kept);
     close(store, d.row, h);
     let k = line(store, h);
-    let w = word(store, k, BRACE_CLOSE);
+    let w = word(store, k, Word::BraceClose);
     close(store, c.row, w);
     w
 }
@@ -491,6 +490,7 @@ fn stmts(store: &mut [u32], c: Cursor, s: &[u8], b: &[u8], from: usize, to: usiz
     let mut p = from;
     let mut d = c;
     let mut first = true;
+    // kept: an iterator over records must prove by itself that it ends and that each record lies in the image, which the loop's invariant says already.
     while p < to {
         d = before_stmt(store, d, s, b, start(b, p), first);
         d = stmt(store, d, s, b, p);
@@ -523,9 +523,9 @@ fn stmt(store: &mut [u32], c: Cursor, s: &[u8], b: &[u8], at: usize) -> Cursor
     match kind(b, at) {
         kinds::LET => bind(store, c, s, b, at),
         kinds::IMPORT_STMT => {
-            let d = word(store, c, IMPORT);
+            let d = word(store, c, Word::Import);
             let e = import_path(store, d, s, b, at + HEAD);
-            word(store, e, SEMICOLON)
+            word(store, e, Word::Semicolon)
         }
         _ => {
             let g = open_group(store, c);
@@ -545,10 +545,10 @@ fn bind(store: &mut [u32], c: Cursor, s: &[u8], b: &[u8], at: usize) -> Cursor
 {
     let p = second(b, at);
     let q = third(b, at);
-    let d = word(store, c, LET);
+    let d = word(store, c, Word::Let);
     let e = ident(store, d, s, b, at + HEAD);
     let f = let_type(store, e, s, b, p);
-    let g = word(store, f, ASSIGN);
+    let g = word(store, f, Word::Assign);
     let h = expr(store, g, s, b, q);
-    word(store, h, SEMICOLON)
+    word(store, h, Word::Semicolon)
 }

@@ -6,8 +6,9 @@ ghost use Rattle.layout.specs.Forms.{SpanAt, content_rule, LiteralAt, literal_of
 use crate::numbers::{end, payload, start};
 use crate::pieces::gap;
 use acts::Cursor;
-use acts::leaves::ascii;
-use acts::words::{FALSE, TRUE, UNIT, word};
+use acts::leaves::{ascii, word};
+use acts::words::Word;
+use comments::Kept;
 use rows::units::Bytes;
 
 // `Node::Ascii` of `span_content`: the source between the ends of the record's span.
@@ -26,11 +27,11 @@ pub(crate) fn literal(store: &mut [u32], c: Cursor, s: &[u8], b: &[u8], at: usiz
     ensures { LaidAs LiteralAt literal_of s.now b.now at store.old c store.new result }
 {
     let position = end(b, at);
-    let d = gap(store, c, s, b, position, true, true, false);
+    let d = gap(store, c, s, b, position, &Kept::AROUND_COMMENTS);
     match payload(b, at) {
         0 => content(store, d, s, b, at),
-        1 => word(store, d, TRUE),
-        2 => word(store, d, FALSE),
-        _ => word(store, d, UNIT),
+        1 => word(store, d, Word::True),
+        2 => word(store, d, Word::False),
+        _ => word(store, d, Word::Unit),
     }
 }

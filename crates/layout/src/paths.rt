@@ -11,10 +11,10 @@ ghost use Rattle.layout.specs.Forms.{field_name};
 use crate::numbers::{HEAD, end, past, second};
 use crate::pieces::gap;
 use acts::Cursor;
-use acts::leaves::{line, str};
+use acts::leaves::{line, str, word};
 use acts::parts::{close, open_group, open_indent};
-use acts::words::{DOT, word};
-use comments::pop_trailing_comment;
+use acts::words::Word;
+use comments::{Kept, pop_trailing_comment};
 use image::bytes::num16;
 use rows::units::{Bytes, Columns};
 
@@ -47,8 +47,8 @@ fn path_next(store: &mut [u32], c: Cursor, s: &[u8], b: &[u8], at: usize, breaks
 {
     let position = end(b, at);
     let d = line_if(store, c, breaks);
-    let e = gap(store, d, s, b, position, false, false, false);
-    let f = word(store, e, DOT);
+    let e = gap(store, d, s, b, position, &Kept::NONE);
+    let f = word(store, e, Word::Dot);
     ident(store, f, s, b, at)
 }
 
@@ -67,6 +67,7 @@ fn path_more(
 {
     let mut p = from;
     let mut d = c;
+    // kept: an iterator over records must prove by itself that it ends and that each record lies in the image, which the loop's invariant says already.
     while p < to {
         d = path_next(store, d, s, b, p, breaks);
         p = past(b, p);
@@ -108,6 +109,6 @@ pub(crate) fn field_name(store: &mut [u32], c: Cursor, s: &[u8], b: &[u8], at: u
     ensures { LaidAs IdentAt field_name s.now b.now at store.old c store.new result }
 {
     let d = line(store, c);
-    let e = word(store, d, DOT);
+    let e = word(store, d, Word::Dot);
     ident(store, e, s, b, at)
 }

@@ -1,6 +1,6 @@
 // Pieces of the rules that lay no part of the syntax tree below them.
-ghost use Rattle.std.specs.Prelude.{◌≡◌, get_or};
-ghost use Rattle.rows.specs.Words.{table};
+ghost use Rattle.std.specs.Prelude.{◌≡◌};
+ghost use Rattle.acts.specs.Spelling.{spelling};
 ghost use Rattle.rows.specs.Node.{wrap_parent};
 ghost use Rattle.acts.specs.Act.{◌⨟◌, says, when, push};
 ghost use Rattle.acts.specs.Laid.{Room, Laid};
@@ -13,10 +13,10 @@ ghost use Rattle.layout.specs.Elems.{mark, starts, Begins, Begun, HasElems, Laid
 
 use crate::forms::{ListForm, WrapStyle};
 use acts::Cursor;
-use acts::leaves::{line, line_or_space, wrap_parent};
-use acts::parts::{close, open_group, open_indent};
-use acts::words::{COMMA, if_wrap, word};
-use comments::{pop_trailing_comment, pop_whitespace};
+use acts::leaves::{line, line_or_space, word, wrap_parent};
+use acts::parts::{close, if_wrap, open_group, open_indent};
+use acts::words::Word;
+use comments::{Kept, pop_trailing_comment, pop_whitespace};
 
 // `pop_whitespace` where what it returns isn't looked at.
 pub(crate) fn gap(
@@ -25,16 +25,13 @@ pub(crate) fn gap(
     s: &[u8],
     b: &[u8],
     position: u32,
-    leading: bool,
-    trailing: bool,
-    only: bool,
+    kept: &Kept,
 ) -> Cursor
     requires readable { Readable s.now b.now }
-    requires room { Room (gap (given s.now b.now) position leading trailing only) c }
-    ensures { Laid (gap (given s.now b.now) position leading trailing only) store.old c store.new result }
+    requires room { Room (gap (given s.now b.now) position kept.now.leading kept.now.trailing kept.now.only) c }
+    ensures { Laid (gap (given s.now b.now) position kept.now.leading kept.now.trailing kept.now.only) store.old c store.new result }
 {
-    let a = pop_whitespace(store, c, s, b, position, leading, trailing, only);
-    a.cursor
+    pop_whitespace(store, c, s, b, position, kept).cursor
 }
 
 // The line or the space inside the brackets of `separated`.
@@ -44,8 +41,7 @@ pub(crate) fn edge(store: &mut [u32], c: Cursor, style: WrapStyle) -> Cursor
 {
     match style {
         WrapStyle::Spaced => line_or_space(store, c),
-        WrapStyle::Tight => line(store, c),
-        WrapStyle::Wrap => line(store, c),
+        WrapStyle::Tight | WrapStyle::Wrap => line(store, c),
     }
 }
 
@@ -97,14 +93,14 @@ pub(crate) fn before_elem(
     ensures { Laid (before_elem (given s.now b.now) (mark commas) first position) store.old c store.new result }
 {
     if first {
-        return gap(store, c, s, b, position, true, true, false);
+        return gap(store, c, s, b, position, &Kept::AROUND_COMMENTS);
     }
     if commas {
-        let d = word(store, c, COMMA);
-        let e = gap(store, d, s, b, position, true, true, false);
+        let d = word(store, c, Word::Comma);
+        let e = gap(store, d, s, b, position, &Kept::AROUND_COMMENTS);
         return line_or_space(store, e);
     }
-    let e = gap(store, c, s, b, position, true, true, false);
+    let e = gap(store, c, s, b, position, &Kept::AROUND_COMMENTS);
     line_or_space(store, e)
 }
 
@@ -123,17 +119,17 @@ fn end_elems(
     ensures { Laid (ends (given s.now b.now) (mark commas) id (span 0 end)) store.old c store.new result }
 {
     if commas {
-        let d = if_wrap(store, c, id, COMMA);
-        return gap(store, d, s, b, end, true, false, false);
+        let d = if_wrap(store, c, id, Word::Comma);
+        return gap(store, d, s, b, end, &Kept::BEFORE_COMMENTS);
     }
-    gap(store, c, s, b, end, true, false, false)
+    gap(store, c, s, b, end, &Kept::BEFORE_COMMENTS)
 }
 
 // The end of a list: its line or space, its word and the comment after it.
 fn close_list(store: &mut [u32], c: Cursor, s: &[u8], b: &[u8], form: ListForm) -> Cursor
     requires readable { Readable s.now b.now }
-    requires room { Room (edge form.style ⨟ says (get_or table form.right "") ⨟ pop_trailing_comment (given s.now b.now)) c }
-    ensures { Laid (edge form.style ⨟ says (get_or table form.right "") ⨟ pop_trailing_comment (given s.now b.now)) store.old c store.new result }
+    requires room { Room (edge form.style ⨟ says (spelling form.right) ⨟ pop_trailing_comment (given s.now b.now)) c }
+    ensures { Laid (edge form.style ⨟ says (spelling form.right) ⨟ pop_trailing_comment (given s.now b.now)) store.old c store.new result }
 {
     let style = form.style;
     let d = edge(store, c, style);
@@ -178,7 +174,7 @@ pub(crate) fn empty_list(
     let d = word(store, g, form.left);
     let e = line(store, d);
     let i = open_indent(store, e);
-    let f = gap(store, i, s, b, end, false, false, false);
+    let f = gap(store, i, s, b, end, &Kept::NONE);
     close(store, e.row, f);
     let h = line(store, f);
     let w = word(store, h, form.right);

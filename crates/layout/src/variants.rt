@@ -1,14 +1,16 @@
 // The variants of an enum.
 ghost use Rattle.std.specs.Prelude.{◌≡◌, true};
+ghost use Rattle.tree.specs.At.{TypeAt};
+ghost use Rattle.layout.specs.Layout.{type_expr};
 ghost use Rattle.layout.specs.Promises.{Has, LaidAs};
-ghost use Rattle.layout.specs.Elems.{VariantElem, VariantAt, variant_rule, HasList, LaidList};
+ghost use Rattle.layout.specs.Elems.{VariantAt, variant_rule};
 ghost use Rattle.layout.specs.Forms.{SomeTypesAt, LastEnd};
 
-use crate::forms::{ListForm, PARENS, TypeElement};
-use crate::numbers::{HEAD, end, past, second, start};
+use crate::forms::PARENS;
+use crate::lists::separated;
+use crate::numbers::{HEAD, end, past, second};
 use crate::paths::ident;
-use crate::pieces::{before_elem, begin_list, empty_list, finish_list};
-use crate::types;
+use crate::types::type_expr;
 use acts::Cursor;
 
 // Where the span of the last type ends, of those from `from` up to `to`.
@@ -18,6 +20,7 @@ fn last_end(b: &[u8], from: usize, to: usize) -> u32
 {
     let mut p = from;
     let mut next = past(b, p);
+    // kept: an iterator over records must prove by itself that it ends and that each record lies in the image, which the loop's invariant says already.
     while next < to {
         p = next;
         next = past(b, p);
@@ -26,7 +29,7 @@ fn last_end(b: &[u8], from: usize, to: usize) -> u32
 }
 
 // A variant, with its types where it has some. The span of their list ends with the last of them.
-fn variant(store: &mut [u32], c: Cursor, s: &[u8], b: &[u8], at: usize) -> Cursor
+pub(crate) fn variant(store: &mut [u32], c: Cursor, s: &[u8], b: &[u8], at: usize) -> Cursor
     requires { Has VariantAt variant_rule s.now b.now at c }
     ensures { LaidAs VariantAt variant_rule s.now b.now at store.old c store.new result }
 {
@@ -37,35 +40,9 @@ fn variant(store: &mut [u32], c: Cursor, s: &[u8], b: &[u8], at: usize) -> Curso
         return d;
     }
     let last = last_end(b, p + HEAD, to);
-    types::separated(store, d, s, b, p, last, PARENS, TypeElement::Type)
-}
-
-// `separated` over variants: the list at `at`, whose span ends at `to`.
-pub(crate) fn separated(
-    store: &mut [u32],
-    c: Cursor,
-    s: &[u8],
-    b: &[u8],
-    at: usize,
-    to: u32,
-    form: ListForm,
-) -> Cursor
-    requires { HasList VariantElem form to s.now b.now at c }
-    ensures { LaidList VariantElem form to s.now b.now at store.old c store.new result }
-{
-    let last = past(b, at);
-    if at + HEAD == last {
-        return empty_list(store, c, s, b, to, form);
-    }
-    let i = begin_list(store, c, form);
-    let mut p = at + HEAD;
-    let mut d = i;
-    let mut first = true;
-    while p < last {
-        d = before_elem(store, d, s, b, start(b, p), first, form.commas);
-        d = variant(store, d, s, b, p);
-        p = past(b, p);
-        first = false;
-    }
-    finish_list(store, d, s, b, c, i, to, form)
+    let item = |rows: &mut [u32], e: Cursor, q: usize| -> Cursor
+        requires { Has TypeAt type_expr s.now b.now q e }
+        ensures { LaidAs TypeAt type_expr s.entry.now b.entry.now q rows.old e rows.new result }
+    { type_expr(rows, e, s, b, q) };
+    separated(store, d, s, b, p, last, PARENS, item)
 }

@@ -2,7 +2,7 @@
 -- Assumes nothing.
 use mathlib.Core.Path.{◌≡◌, refl, sym, ap, ap₂, ◌∙◌}
 use mathlib.Core.Bool.{Bool, true, false, not}
-use mathlib.Core.Option.{Option, none, some}
+use Rattle.std.specs.Prelude.{Option, None, Some, Result, Ok, Err}
 use mathlib.Core.List.{List, [], ◌∷◌}
 use Prim.Native.Nat.{ℕ, ◌+◌, ◌-◌, ◌*◌, ◌≤◌, ◌<◌}
 use native.Mathlib.Omega.{arith}
@@ -41,8 +41,10 @@ use Rattle.layout_call.specs.Whole.{LayoutCalled}
 use Rattle.layout_call.specs.Steps.{SmallCursor, StateFits, Roomy, call_act}
 use Rattle.layout_call.specs.declared.LayoutState.{LayoutState}
 use Rattle.layout_call.specs.declared.LayoutArgs.{LayoutArgs}
-use Rattle.layout_call.specs.declared.Laying.{Laying}
-use Rattle.layout_call.specs.declared.Laying.TheVariants as laying
+use Rattle.layout_call.specs.declared.Laid as declared
+use Rattle.refusals.specs.Reasons.{refusal}
+use Rattle.refusals.specs.declared.Refused.{Refused}
+use Rattle.refusals.specs.declared.Reason.TheVariants as reason
 use Rattle.layout_call.proofs.Standing.{comments_count, few_comments, source_short, room}
 
 module _ (s b : List ℕ) (state : LayoutState) (q : LayoutArgs) (store : List ℕ) where
@@ -68,13 +70,13 @@ module _ (s b : List ℕ) (state : LayoutState) (q : LayoutArgs) (store : List �
   before_by : (o : Option Refusal) (t : Bool) → read_refusal (read_all s b) ≡ o → unfit ≡ t → first before ≡ first (o ∷ refuse_if t 12 0 ∷ [])
   before_by o t e f = ap₂ (λ (x : Option Refusal) (y : Bool). first (x ∷ refuse_if y 12 0 ∷ [])) e f
 
-  rows_by : (u : Bool) (n : ℕ) → first before ≡ none → needed ≡ n → ltb (rows_in store) n ≡ u → table ≡ first (refuse_if u 8 n ∷ [])
+  rows_by : (u : Bool) (n : ℕ) → first before ≡ None → needed ≡ n → ltb (rows_in store) n ≡ u → table ≡ first (refuse_if u 8 n ∷ [])
   rows_by u n e g h =
       left_to before behind e
       ∙ ap (λ (x : ℕ). first (refuse_if (ltb (rows_in store) x) 8 x ∷ [])) g
       ∙ ap (λ (x : Bool). first (refuse_if x 8 n ∷ [])) h
 
-  refused_by : (r : Refusal) (x : Laying) → table ≡ some r → laying_answer s b x ≡ refused r → LayoutCalled s b state q store x store
+  refused_by : (r : Refusal) (x : Result declared.Laid Refused) → table ≡ Some r → laying_answer s b x ≡ refused r → LayoutCalled s b state q store x store
   refused_by r x e f =
       record {
         answer = f ∙ ap (λ (t : Option Refusal). answer_by {A = CallResult (rules_of s b)} t (laid_out gives.state gives.left)) (sym e);
@@ -82,9 +84,8 @@ module _ (s b : List ℕ) (state : LayoutState) (q : LayoutArgs) (store : List �
       }
 
   -- 1 to 7
-  pub ends_unread : (n p : ℕ) → outcome (read_all s b) ≡ refused (record { number = n; place = p })
-      → LayoutCalled s b state q store (laying.Refused n p) store
-  ends_unread n p e =
+  pub ends_unread : (r : Refused) → outcome (read_all s b) ≡ refused (refusal r) → LayoutCalled s b state q store (Err r) store
+  ends_unread r e =
       refused_by _ _ (refuses_left _ before behind (before_by _ unfit (sym (read_refusal_lem (read_all s b)) ∙ ap refusal_of e) refl)) refl
 
   module _ {d : Document} (a : Accepts s b d) where
@@ -93,19 +94,25 @@ module _ (s b : List ℕ) (state : LayoutState) (q : LayoutArgs) (store : List �
         → x ≡ not (any (layout_tests_in declarations d.comments (length s) (rows_in store) (to_args q) (to_state state))) → x ≡ not unfit
     fits_told x declarations e f = rw (sym e, comments_count a) f
 
-    reads : read_refusal (read_all s b) ≡ none
-    reads = sym (read_refusal_lem (read_all s b)) ∙ ap refusal_of a.answer
-
-    -- 12
-    pub ends_unfit : (x : Bool) → x ≡ not unfit → not x ≡ true → LayoutCalled s b state q store (laying.Refused 12 0) store
-    ends_unfit x e h = refused_by _ _ (refuses_left _ before behind (before_by none true reads (not-false unfit (sym e ∙ not-true x h)))) refl
-
     pub fits_by : (x : Bool) → x ≡ not unfit → not x ≡ false → StateFits s b state q store
     fits_by x e h = record { tested = not-true unfit (sym e ∙ not-false x h) }
 
+    -- so, by what it answers, 12 refuses the state or lets it pass
+    pub fits_unless : (x : Bool) (declarations : ℕ) → declarations ≡ length (declared s b)
+        → x ≡ not (any (layout_tests_in declarations d.comments (length s) (rows_in store) (to_args q) (to_state state))) → x ≡ true
+        → StateFits s b state q store
+    fits_unless x declarations e f h = fits_by x (fits_told x declarations e f) (ap not h)
+
+    reads : read_refusal (read_all s b) ≡ None
+    reads = sym (read_refusal_lem (read_all s b)) ∙ ap refusal_of a.answer
+
+    -- 12
+    pub ends_unfit : (x : Bool) → x ≡ not unfit → not x ≡ true → LayoutCalled s b state q store (Err (record { reason = reason.State; place = 0 })) store
+    ends_unfit x e h = refused_by _ _ (refuses_left _ before behind (before_by None true reads (not-false unfit (sym e ∙ not-true x h)))) refl
+
     module _ (fits : StateFits s b state q store) where
-      passes : first before ≡ none
-      passes = before_by none false reads fits.tested
+      passes : first before ≡ None
+      passes = before_by None false reads fits.tested
 
       told : LayoutFits (length (declared s b)) (length (comments_of b)) (length s) (rows_in store) (to_args q) (to_state state)
       told = layout_fits (length (declared s b)) (length (comments_of b)) (length s) (rows_in store) (to_args q) (to_state state) fits.tested
@@ -126,7 +133,7 @@ module _ (s b : List ℕ) (state : LayoutState) (q : LayoutArgs) (store : List �
           )
 
       -- 8
-      pub ends_short : (m : ℕ) → m ≡ needed → rows_in store < m → LayoutCalled s b state q store (laying.Refused 8 m) store
+      pub ends_short : (m : ℕ) → m ≡ needed → rows_in store < m → LayoutCalled s b state q store (Err (record { reason = reason.RowsNeeded; place = m })) store
       ends_short m e h = refused_by _ _ (rows_by true m passes (sym e) (lt-ltb (rows_in store) m h)) refl
 
       -- what is due, by the rules
@@ -161,7 +168,7 @@ module _ (s b : List ℕ) (state : LayoutState) (q : LayoutArgs) (store : List �
             in
             omega (arith, ap (λ (c : Cursor). c.placed) laid.moved, w.within, comments_count a)
 
-        none_left : table ≡ none
+        none_left : table ≡ None
         none_left = rows_by false needed passes refl (le-ltb (rows_in store) needed roomy.fits)
 
         stored : store2 ≡ write_at (PLACES * state.row) gives.rows store
@@ -177,7 +184,7 @@ module _ (s b : List ℕ) (state : LayoutState) (q : LayoutArgs) (store : List �
             → t.position ≡ e.pos
             → t.mode ≡ q.mode
             → left ≡ d.comments - e.placed
-            → LayoutCalled s b state q store (laying.Laid t left) store2
+            → LayoutCalled s b state q store (Ok (record { state = t; left = left })) store2
         ends_laid t left q1 q2 q3 q4 q5 q6 q7 q8 q9 =
             record {
               answer =

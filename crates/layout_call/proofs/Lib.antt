@@ -1,3 +1,2 @@
 pub mod Standing
-pub mod Tests
 pub mod Ends

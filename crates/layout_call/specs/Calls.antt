@@ -1,14 +1,15 @@
 -- A layout call's state, arguments and answer as document 01's.
-use Rattle.std.specs.Prelude.{List, ℕ}
-use Rattle.refusals.specs.Answers.{Answer, refused, accepted}
+use Rattle.std.specs.Prelude.{List, ℕ, Result}
+use Rattle.refusals.specs.Answers.{Answer}
+use Rattle.refusals.specs.Reasons.{answer_of}
+use Rattle.refusals.specs.declared.Refused.{Refused}
 use Rattle.cut_rule.specs.Rules as cut
 use Rattle.cut_rule.specs.Run.{CallResult, laid_out}
 use Rattle.cut_rule.specs.States as states
 use Rattle.whole_run.specs.Demands.{rules_of}
 use Rattle.layout_call.specs.declared.LayoutState.{LayoutState}
 use Rattle.layout_call.specs.declared.LayoutArgs.{LayoutArgs}
-use Rattle.layout_call.specs.declared.Laying.{Laying}
-use Rattle.layout_call.specs.declared.Laying.TheVariants as laying
+use Rattle.layout_call.specs.declared.Laid.{Laid}
 
 -- "Layout state: begun, closed, next declaration, next row, next number, comments placed, position", and the mode
 abbrev pub to_state : LayoutState → states.LayoutState
@@ -24,7 +25,6 @@ to_state s = record {
 abbrev pub to_args : LayoutArgs → cut.LayoutArgs states.LayoutChoice
 to_args q = record { stop = q.stop; close = q.close; choice = record { mode = q.mode } }
 
--- A call's answer, case by case: "the new state with the number of comments left"; "Number and place are all that comes back."
-abbrev pub laying_answer : (s b : List ℕ) → Laying → Answer (CallResult (rules_of s b))
-laying_answer s b (laying.Laid t n) = accepted (laid_out (to_state t) n)
-laying_answer s b (laying.Refused n p) = refused (record { number = n; place = p })
+-- A call's answer: "the new state with the number of comments left"; "Number and place are all that comes back."
+abbrev pub laying_answer : (s b : List ℕ) → Result Laid Refused → Answer (CallResult (rules_of s b))
+laying_answer s b = answer_of (λ t. laid_out (to_state t.state) t.left)

@@ -1,16 +1,14 @@
 // Refusal 8: how many rows a call needs.
 ghost use Rattle.std.specs.Prelude.{◌≡◌, ◌+◌, ◌≤◌, length};
-ghost use Rattle.image.specs.Read.{Accepts};
 ghost use Rattle.rows.specs.Rows.{sizes};
 ghost use Rattle.acts.specs.Laid.{st};
 ghost use Rattle.whole_run.specs.Built.{declared};
 ghost use Rattle.layout_call.specs.Steps.{SmallCursor, Wanted, call_act};
 
+use crate::accepted::Accepted;
 use crate::steps::lay;
 use crate::{LayoutArgs, LayoutState};
 use acts::Cursor;
-use image::Document;
-use rows::store::to_usize;
 
 // A tree has no more than five rows for each 13 bytes of its image: a byte gives 5 points, and a row takes 13.
 const BYTE_GIVES: usize = 5;
@@ -18,38 +16,27 @@ const BYTE_GIVES: usize = 5;
 const ROW_TAKES: usize = 13;
 
 // The row behind what a call lays, counted over a store that has no room for it.
-fn rows_needed(
-    c: Cursor,
-    s: &[u8],
-    b: &[u8],
-    doc: Document,
-    state: LayoutState,
-    args: LayoutArgs,
-) -> usize
-    requires { Accepts s.now b.now doc × ((state.declaration ≤ args.stop) × ((args.stop ≤ length (declared s.now b.now)) × SmallCursor c doc)) }
-    ensures { result ≡ c.row + sizes (call_act s.now b.now state args (st c)).nodes }
+fn rows_needed(c: Cursor, file: Accepted<'_>, state: LayoutState, args: LayoutArgs) -> usize
+    requires { (state.declaration ≤ args.stop) × ((args.stop ≤ length (declared file.source.now file.image.now)) × SmallCursor c file.doc) }
+    ensures { result ≡ c.row + sizes (call_act file.entry.source.now file.entry.image.now state args (st c)).nodes }
 {
-    let mut none = [0u32; 1];
-    let d = lay(&mut none, c, s, b, doc, state, args);
-    to_usize(d.row)
+    lay(&mut [], c, file, state, args).row as usize
 }
 
 // The same if it is past `rows`, and else a row that is not. Where the store has all the rows that the image's bytes give, nothing is counted.
 pub(crate) fn rows_wanted(
     c: Cursor,
-    s: &[u8],
-    b: &[u8],
-    doc: Document,
+    file: Accepted<'_>,
     state: LayoutState,
     args: LayoutArgs,
     rows: usize,
 ) -> usize
-    requires { Accepts s.now b.now doc × ((state.declaration ≤ args.stop) × ((args.stop ≤ length (declared s.now b.now)) × SmallCursor c doc)) }
-    ensures { Wanted rows (c.row + sizes (call_act s.now b.now state args (st c)).nodes) result }
+    requires { (state.declaration ≤ args.stop) × ((args.stop ≤ length (declared file.source.now file.image.now)) × SmallCursor c file.doc) }
+    ensures { Wanted rows (c.row + sizes (call_act file.entry.source.now file.entry.image.now state args (st c)).nodes) result }
 {
-    let most = to_usize(c.row) + b.len() * BYTE_GIVES / ROW_TAKES;
+    let most = c.row as usize + file.image.len() * BYTE_GIVES / ROW_TAKES;
     if most <= rows {
         return rows;
     }
-    rows_needed(c, s, b, doc, state, args)
+    rows_needed(c, file, state, args)
 }

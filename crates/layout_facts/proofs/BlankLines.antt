@@ -5,7 +5,7 @@ use Prim.Native.Nat.{ℕ, zero, suc, ◌+◌, ◌-◌, ◌≤◌}
 use mathlib.Core.Path.{◌≡◌, refl, sym, ap, ◌∙◌}
 use mathlib.Core.Bool.{Bool, true, false, cond, not, ◌&&◌}
 use mathlib.Core.List.{List, [], ◌∷◌}
-use mathlib.Core.Option.{none as nothing, some}
+use Rattle.std.specs.Prelude.{None as nothing, Some}
 use native.Mathlib.Omega.{arith}
 use lib.ListN.{length, drop, length-drop}
 use lib.Seq.{drop-nil}
@@ -30,13 +30,13 @@ none_at (x ∷ xs) zero e = let z : ◌≡◌ {A = ℕ} 0 1 = cc in absurd (omeg
 none_at (x ∷ xs) (suc k) e = none_at xs k e
 
 record At (l : List Span) (k : ℕ) (c : Span) (cs : List Span) : Type 0 where
-  here : nth l k ≡ some c
+  here : nth l k ≡ Some c
   behind : drop (suc k) l ≡ cs
 
 some_at : (l : List Span) (k : ℕ) (c : Span) (cs : List Span) → drop k l ≡ c ∷ cs → At l k c cs
 unfolding nth
 some_at [] k c cs e = let f : ◌≡◌ {A = List Span} [] (c ∷ cs) = sym (drop-nil k) ∙ e in let z : ◌≡◌ {A = ℕ} 0 1 = cc in absurd (omega arith)
-some_at (x ∷ xs) zero c cs e = record { here = ap some (cc); behind = cc }
+some_at (x ∷ xs) zero c cs e = record { here = ap Some (cc); behind = cc }
 some_at (x ∷ xs) (suc k) c cs e = let r = some_at xs k c cs e in record { here = r.here; behind = r.behind }
 
 -- what `newlines` lays for a count, before other nodes

@@ -4,7 +4,7 @@ use Prim.Native.Nat.{ℕ, ◌+◌, ◌*◌, ◌-◌, ◌≤◌}
 use mathlib.Core.Path.{refl}
 use mathlib.Core.Bool.{Bool, true, false, not}
 use mathlib.Core.List.{List, [], ◌∷◌}
-use mathlib.Core.Option.{Option, none as nothing, some}
+use Rattle.std.specs.Prelude.{Option, None as nothing, Some}
 use native.Mathlib.Omega.{arith}
 use lib.ListN.{length}
 use Rattle.text.proofs.Trims.{trim_before}
@@ -58,7 +58,7 @@ module _ {g : Given} (commented : Commented g) where
       → Sounds g (2 * ROW_TAKES + points g at 0) d (some_type_params g ps)
   unfolding Maybe
   some_params nothing at h a = fewer sound_skip (omega arith)
-  some_params (some is) at h a = sound_unless_empty is.elems (sound_type_params is at h a)
+  some_params (Some is) at h a = sound_unless_empty is.elems (sound_type_params is at h a)
 
   all_variants : (vs : Variants) (at end : ℕ) {d : ℕ} → VariantsAt g.source g.image vs at end → 2 * variants_height vs ≤ d
       → All g (BYTE_GIVES * (end - at)) d (variant_elems g vs)
@@ -135,7 +135,7 @@ module _ {g : Given} (commented : Commented g) where
       ⨾ sound_skip
       ⨾ sound_block commented b (past g.source g.image w) a.5 (omega arith))
       (omega (arith, a.1.head.long, a.6.same))
-  sound_declaration (function i s fs (some t) b) at first a h =
+  sound_declaration (function i s fs (Some t) b) at first a h =
       let v : ℕ = past g.source g.image (at + 13) in
       let w : ℕ = past g.source g.image v in
       fewer
@@ -176,7 +176,7 @@ module _ {g : Given} (commented : Commented g) where
       → Sounds g (2 * ROW_TAKES) d (shebang_rule g i)
   unfolding shebang_rule Maybe
   sound_shebang nothing at a = fewer sound_skip (omega arith)
-  sound_shebang (some i) at a =
+  sound_shebang (Some i) at a =
       sound_str
       (record {
         origin = omega arith;

@@ -5,7 +5,7 @@ use Prim.Native.String.{String}
 use mathlib.Core.Path.{◌≡◌, sym, ap, subst, ◌∙◌}
 use mathlib.Core.Bool.{Bool, true, false, cond, not, ◌&&◌}
 use mathlib.Core.List.{List, [], ◌∷◌, ◌++◌, map, append-nil, append_assoc}
-use mathlib.Core.Option.{Option, none as nothing, some}
+use Rattle.std.specs.Prelude.{Option, None as nothing, Some}
 use lib.Dec.{ltb, eqb}
 use lib.Text.{eqt}
 use Rattle.ast.specs.Syntax.{Span, Ident, Path, Idents, TypeExpr, type, TypeForm, option, type_path, never, unit, record_type, TypeArgs, no_args, args}
@@ -241,7 +241,7 @@ module _ {g : Given} {P : ℕ → List Token → Act → Type 0} (J : Joining g 
 
   every_import_first : (p : Option Path) → Every (maybe_path_tokens p) (import_first g p)
   every_import_first nothing = every_skip
-  every_import_first (some p) = every_path p true false
+  every_import_first (Some p) = every_path p true false
 
   every_one_or : {ts us : List Token} (is : Imports) {a b : Act} → Every ts a → Every us b → Every (one_or_more is ts us) (one_or g is a b)
   every_one_or no_imports p q = p
@@ -271,7 +271,7 @@ module _ {g : Given} {P : ℕ → List Token → Act → Type 0} (J : Joining g 
   unfolding pattern
   every_pattern underscore = said "_"
   every_pattern (enum_variant i nothing) = named i
-  every_pattern (enum_variant i (some fs)) = named i ⨾ every_separated "(" ")" true (all_idents fs.elems) fs.span Tight
+  every_pattern (enum_variant i (Some fs)) = named i ⨾ every_separated "(" ")" true (all_idents fs.elems) fs.span Tight
 
   -- a chain of operators: its leftmost operand, and the others
   record EveryOperands (ts : List Token) (c : Operands) : Type 0 where
@@ -446,7 +446,7 @@ module _ {g : Given} {P : ℕ → List Token → Act → Type 0} (J : Joining g 
       where
         every_let_type : (t : Option TypeExpr) → Every (let_type_tokens t) (let_type g t)
         every_let_type nothing = every_skip
-        every_let_type (some u) = said ": " ⨾ every_type u
+        every_let_type (Some u) = said ": " ⨾ every_type u
     every_stmt_form (import_stmt i) = said "import " ⨾ every_import i ⨾ said ";"
     every_stmt_form (does e) = every_grouped (λ id. every_expr e Bottom ⨾ said_if (not (is_braced e)) ";")
 
@@ -468,7 +468,7 @@ module _ {g : Given} {P : ℕ → List Token → Act → Type 0} (J : Joining g 
   -- the parameters of a record or of an enum
   some_params : (ps : Option Idents) → Every (type_params_tokens ps) (some_type_params g ps)
   some_params nothing = every_skip
-  some_params (some is) = unless_empty_lem is.elems
+  some_params (Some is) = unless_empty_lem is.elems
     where
       unless_empty_lem : (xs : List Ident) → Every (some_names xs) (unless_empty xs (type_params g (ident_elems g xs) is.span))
       unless_empty_lem [] = every_skip
@@ -481,7 +481,7 @@ module _ {g : Given} {P : ℕ → List Token → Act → Type 0} (J : Joining g 
 
   every_return_type : (t : Option TypeExpr) → Every (return_type_tokens t) (return_type g t)
   every_return_type nothing = every_skip
-  every_return_type (some t) = said "-> " ⨾ every_type t ⨾ said " "
+  every_return_type (Some t) = said "-> " ⨾ every_type t ⨾ said " "
 
   pub every_declaration : (d : Declaration) (first : Bool) → Every (declaration_tokens d) (declaration g d first)
   unfolding declaration declaration_tokens
@@ -505,7 +505,7 @@ module _ {g : Given} {P : ℕ → List Token → Act → Type 0} (J : Joining g 
   pub every_shebang : (i : Option Ident) → Every (shebang_tokens g.image i) (shebang_rule g i)
   unfolding shebang_rule
   every_shebang nothing = every_skip
-  every_shebang (some i) = (λ k. J.names _ _) ◃ emptied
+  every_shebang (Some i) = (λ k. J.names _ _) ◃ emptied
 
   pub every_closing : (t : SyntaxTree) (keeps : Bool) → EveryNone (closing g t keeps)
   every_closing t true = gapped _ _ _ _ ⨾ lined

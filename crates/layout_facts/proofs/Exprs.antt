@@ -6,7 +6,7 @@ use Prim.Native.String.{String}
 use mathlib.Core.Path.{◌≡◌, refl}
 use mathlib.Core.Bool.{Bool, true, false, cond, not, ◌&&◌}
 use mathlib.Core.List.{List, [], ◌∷◌}
-use mathlib.Core.Option.{none as nothing, some}
+use Rattle.std.specs.Prelude.{None as nothing, Some}
 use native.Mathlib.Omega.{arith}
 use lib.ListN.{length, get_or}
 use lib.Dec.{ltb, eqb}
@@ -459,7 +459,7 @@ module _ {g : Given} (commented : Commented g) where
         ⨾ sound_expr e (past g.source g.image v) Bottom a.2 (omega arith)
         ⨾ sound_says ";" refl)
         (omega (arith, points_most g (past g.source g.image v) 3, a.3.same))
-    sound_stmt_form (let' i (some t) e) at l a h =
+    sound_stmt_form (let' i (Some t) e) at l a h =
         let v : ℕ = past g.source g.image (at + 13) in
         leaving at 2
         (sound_says "let " refl

@@ -4,7 +4,7 @@ use Prim.Native.Nat.{ℕ, zero, suc, ◌+◌, ◌≤◌, ◌<◌, min}
 use mathlib.Core.Path.{◌≡◌, refl}
 use mathlib.Core.Bool.{Bool, true, false, cond, ◌&&◌}
 use mathlib.Core.List.{List, [], ◌∷◌}
-use mathlib.Core.Option.{Option, none as nothing, some}
+use Rattle.std.specs.Prelude.{Option, None as nothing, Some}
 use native.Mathlib.Omega.{arith}
 use lib.Dec.{ltb}
 use lib.ListN.{length}
@@ -42,7 +42,7 @@ module _ {s b : List ℕ} (list : Listed s b) where
   abbrev g : Given
   g = given s b
 
-  starts_before : (k : ℕ) (c : Span) → nth (comments_of b) k ≡ some c → c.start < length s
+  starts_before : (k : ℕ) (c : Span) → nth (comments_of b) k ≡ Some c → c.start < length s
   starts_before k c e =
       let w = good list k c e in
       omega (arith, w.order, range_inside s c.start c.end w.range)
@@ -64,10 +64,10 @@ module _ {s b : List ℕ} (list : Listed s b) where
           → Popped b
           (elim f [
             | nothing ↦ skip z
-            | some c ↦ cond (ltb c.start (length s)) (pop_comment g leading c ⨟ pop_comments g n (length s) true) skip z
+            | Some c ↦ cond (ltb c.start (length s)) (pop_comment g leading c ⨟ pop_comments g n (length s) true) skip z
           ])
       turn nothing e more = record { placed = omega (arith, none_past (comments_of b) z.placed e) }
-      turn (some c) e more =
+      turn (Some c) e more =
           let y = next z (pop_comment g leading c z) in
           let w = more y (omega (arith, one_placed leading c z, inside b z.placed c e, count_of b)) (omega (arith, one_placed leading c z)) in
           rw (lt-ltb c.start (length s) (starts_before z.placed c e)) (record { placed = w.placed })
@@ -77,9 +77,9 @@ module _ {s b : List ℕ} (list : Listed s b) where
   unfolding ignore_newlines
   ignored y e = go (front g y) e
     where
-      go : (f : Option Span) → f ≡ nothing → (move_to (elim f [ nothing ↦ length s | some c ↦ min (length s) c.start ]) y).pos ≡ length s
+      go : (f : Option Span) → f ≡ nothing → (move_to (elim f [ nothing ↦ length s | Some c ↦ min (length s) c.start ]) y).pos ≡ length s
       go nothing e = refl
-      go (some c) e = let z : ◌≡◌ {A = ℕ} 0 1 = cc in absurd (omega arith)
+      go (Some c) e = let z : ◌≡◌ {A = ℕ} 0 1 = cc in absurd (omega arith)
 
   -- `pop_whitespace` asked for the source's length, with neither newlines after the comments nor newlines alone
   all_waiting : (leading : Bool) (z : St) → z.placed ≤ length (comments_of b)

@@ -3,14 +3,12 @@
 use Prim.Native.Nat.{ℕ, zero, suc}
 use mathlib.Core.Path.{◌≡◌, refl}
 use mathlib.Core.Bool.{Bool, true, false, cond, ◌&&◌}
-use mathlib.Core.Option.{Option, none as nothing, some}
+use Rattle.std.specs.Prelude.{Option, None, Some}
 use lib.Dec.{ltb, eqb}
 use lib.ListN.{length}
 use Rattle.text.specs.Newlines.{count_newlines}
 use Rattle.text.specs.declared.newlines.Newlines.{Newlines}
 use Rattle.text.specs.Space.{something}
-use Rattle.text.specs.declared.space.Found.{Found}
-use Rattle.text.specs.declared.space.Found.TheVariants.{At, Nowhere}
 use Rattle.ast.specs.Syntax.{Span}
 use Rattle.rows.specs.Node.{line, empty_line}
 use Rattle.acts.specs.Act.{Given, St, Act, ◌⨟◌, ◌⨟!◌, skip, push, move_to, pop, step_alone}
@@ -52,11 +50,11 @@ module _ {g : Given} {P : Act → Type 0} (J : GapSteps g P) where
   gap_pop_comments (suc n) p leading = J.looks (λ s. turned (front g s)) (λ s. turn (front g s) (gap_pop_comments n p true)) (λ s. refl)
     where
       turned : Option Span → Act
-      turned f s = elim f [ nothing ↦ skip s | some c ↦ cond (ltb c.start p) (pop_comment g leading c ⨟ pop_comments g n p true) skip s ]
+      turned f s = elim f [ None ↦ skip s | Some c ↦ cond (ltb c.start p) (pop_comment g leading c ⨟ pop_comments g n p true) skip s ]
 
       turn : (f : Option Span) → P (pop_comments g n p true) → P (turned f)
-      turn nothing more = J.skips
-      turn (some c) more = gap_cond (ltb c.start p) (J.joins (gap_pop_comment leading c) more) J.skips
+      turn None more = J.skips
+      turn (Some c) more = gap_cond (ltb c.start p) (J.joins (gap_pop_comment leading c) more) J.skips
 
   pub every_gap : (p : ℕ) (leading trailing only : Bool) → P (step_alone (pop_whitespace g p leading trailing only))
   unfolding pop_whitespace ◌⨟!◌
@@ -74,14 +72,14 @@ module _ {g : Given} {P : Act → Type 0} (J : GapSteps g P) where
   unfolding pop_trailing_comment
   every_trailing = J.looks (λ s. sought (something g.source s.pos) (front g s)) (λ s. found (something g.source s.pos) (front g s)) (λ s. refl)
     where
-      sought : Found → Option Span → Act
+      sought : Option ℕ → Option Span → Act
       sought f o s =
           elim f [
-            | Nowhere ↦ skip s
-            | At place ↦ elim o [ nothing ↦ skip s | some c ↦ cond (eqb c.start place) (pop ⨟ push_comment g c ⨟ move_to c.end) skip s ]
+            | None ↦ skip s
+            | Some place ↦ elim o [ None ↦ skip s | Some c ↦ cond (eqb c.start place) (pop ⨟ push_comment g c ⨟ move_to c.end) skip s ]
           ]
 
-      found : (f : Found) (o : Option Span) → P (sought f o)
-      found Nowhere o = J.skips
-      found (At place) nothing = J.skips
-      found (At place) (some c) = gap_cond (eqb c.start place) (J.joins J.pops (J.joins (J.comments c) (J.moves c.end))) J.skips
+      found : (f : Option ℕ) (o : Option Span) → P (sought f o)
+      found None o = J.skips
+      found (Some place) None = J.skips
+      found (Some place) (Some c) = gap_cond (eqb c.start place) (J.joins J.pops (J.joins (J.comments c) (J.moves c.end))) J.skips

@@ -5,7 +5,7 @@ use Prim.Native.Nat.{ℕ, zero, suc, ◌-◌, ◌*◌, ◌≤◌, ◌<◌, min}
 use mathlib.Core.Path.{◌≡◌, refl}
 use mathlib.Core.Bool.{Bool, true, false, cond, ◌&&◌}
 use mathlib.Core.List.{List, [], ◌∷◌}
-use mathlib.Core.Option.{Option, none as nothing, some}
+use Rattle.std.specs.Prelude.{Option, None, Some}
 use native.Mathlib.Omega.{arith}
 use lib.ListN.{length}
 use lib.Dec.{ltb, eqb}
@@ -13,8 +13,6 @@ use Rattle.laws.proofs.Booleans.{false_true}
 use Rattle.text.proofs.Trims.{trim_before}
 use Rattle.text.specs.Newlines.{count_newlines}
 use Rattle.text.specs.Space.{something}
-use Rattle.text.specs.declared.space.Found.{Found}
-use Rattle.text.specs.declared.space.Found.TheVariants.{At, Nowhere}
 use Rattle.ast.specs.Syntax.{Span}
 use Rattle.rows.specs.Node.{line, empty_line, join}
 use Rattle.rows.specs.Rows.{sizes}
@@ -48,9 +46,9 @@ module _ {g : Given} (commented : Commented g) where
   unfolding ignore_newlines
   sound_ignore_newlines {d} p h = record { from = λ s. at s (front g s) }
     where
-      at : (s : St) (f : Option Span) → Sound g 0 d s (move_to (elim f [ nothing ↦ p | some c ↦ min p c.start ]) s)
-      at s nothing = (sound_move_to h).from s
-      at s (some c) = let i : min p c.start ≤ length g.source = omega arith in (sound_move_to i).from s
+      at : (s : St) (f : Option Span) → Sound g 0 d s (move_to (elim f [ None ↦ p | Some c ↦ min p c.start ]) s)
+      at s None = (sound_move_to h).from s
+      at s (Some c) = let i : min p c.start ≤ length g.source = omega arith in (sound_move_to i).from s
 
   -- they take neither numbers nor comments
   pub record Free (s : St) (o : Out) : Type 0 where
@@ -136,10 +134,10 @@ module _ {g : Given} (commented : Commented g) where
       taken c r more false = pops_none s
 
       turn : (f : Option Span) → front g s ≡ f → ((s : St) → Pops d (turns n (waits g p s)) s (pop_comments g n p true s))
-          → Pops d (elim f [ nothing ↦ false | some c ↦ ltb c.start p ]) s
-          (elim f [ nothing ↦ skip s | some c ↦ cond (ltb c.start p) (pop_comment g leading c ⨟ pop_comments g n p true) skip s ])
-      turn nothing e more = pops_none s
-      turn (some c) e more = taken c (commented.ranged s.placed c e) more (ltb c.start p)
+          → Pops d (elim f [ None ↦ false | Some c ↦ ltb c.start p ]) s
+          (elim f [ None ↦ skip s | Some c ↦ cond (ltb c.start p) (pop_comment g leading c ⨟ pop_comments g n p true) skip s ])
+      turn None e more = pops_none s
+      turn (Some c) e more = taken c (commented.ranged s.placed c e) more (ltb c.start p)
 
   -- where a comment waits, the loop has a turn
   waiting : (p : ℕ) (s : St) → waits g p s ≡ true → turns (length g.comments) (waits g p s) ≡ true
@@ -147,7 +145,7 @@ module _ {g : Given} (commented : Commented g) where
   waiting p s = go g.comments s.placed
     where
       go : (cs : List Span) (k : ℕ)
-          → let w : Bool = elim (nth cs k) [ nothing ↦ false | some c ↦ ltb c.start p ] in
+          → let w : Bool = elim (nth cs k) [ None ↦ false | Some c ↦ ltb c.start p ] in
           w ≡ true → turns (length cs) w ≡ true
       go [] k e = false_true e
       go (c ∷ cs) k e = e
@@ -220,16 +218,16 @@ module _ {g : Given} (commented : Commented g) where
 
       turn : (s : St) (place : ℕ) (f : Option Span) → front g s ≡ f
           → Sound g 0 d s
-          (elim f [ nothing ↦ skip s | some c ↦ cond (eqb c.start place) (pop ⨟ push_comment g c ⨟ move_to c.end) skip s ])
-      turn s place nothing e = sound_skip.from s
-      turn s place (some c) e = taken s c (commented.ranged s.placed c e) (eqb c.start place)
+          (elim f [ None ↦ skip s | Some c ↦ cond (eqb c.start place) (pop ⨟ push_comment g c ⨟ move_to c.end) skip s ])
+      turn s place None e = sound_skip.from s
+      turn s place (Some c) e = taken s c (commented.ranged s.placed c e) (eqb c.start place)
 
-      found : (s : St) (f : Found)
+      found : (s : St) (f : Option ℕ)
           → Sound g 0 d s
           (elim f [
-            | Nowhere ↦ skip s
-            | At place ↦
-                elim (front g s) [ nothing ↦ skip s | some c ↦ cond (eqb c.start place) (pop ⨟ push_comment g c ⨟ move_to c.end) skip s ]
+            | None ↦ skip s
+            | Some place ↦
+                elim (front g s) [ None ↦ skip s | Some c ↦ cond (eqb c.start place) (pop ⨟ push_comment g c ⨟ move_to c.end) skip s ]
           ])
-      found s Nowhere = sound_skip.from s
-      found s (At place) = turn s place (front g s) refl
+      found s None = sound_skip.from s
+      found s (Some place) = turn s place (front g s) refl

@@ -5,7 +5,7 @@ use Prim.Native.String.{String}
 use mathlib.Core.Path.{◌≡◌, refl, sym, ap}
 use mathlib.Core.Bool.{Bool, true, false, not, ◌&&◌}
 use mathlib.Core.List.{List, [], ◌∷◌}
-use mathlib.Core.Option.{none as nothing, some}
+use Rattle.std.specs.Prelude.{None as nothing, Some}
 use native.Mathlib.Omega.{arith}
 use lib.ListN.{length}
 use lib.Text.{eqt}
@@ -298,7 +298,7 @@ module _ {g : Given} (commented : Commented g) where
         fewer
         (sound_skip ⨾ sound_skip ⨾ sound_import_group q (past g.source g.image (at + 13)) a.2 (omega arith))
         (omega (arith, a.3.same))
-    sound_import (import s (some p) q) at a h =
+    sound_import (import s (Some p) q) at a h =
         fewer
         (sound_path p (at + 13) true false (omega arith) a.1
         ⨾ sound_when (true && is_group q) (sound_says "." refl)
@@ -340,6 +340,6 @@ module _ {g : Given} (commented : Commented g) where
   unfolding pattern PatternAt Maybe among points
   sound_pattern underscore at h a = fewer (sound_says "_" refl) (omega (arith, a.0.head.long))
   sound_pattern (enum_variant i nothing) at h a = fewer (sound_ident a.1) (omega (arith, a.0.head.long))
-  sound_pattern (enum_variant i (some is)) at h a =
+  sound_pattern (enum_variant i (Some is)) at h a =
       fewer (sound_ident a.1 ⨾ sound_idents "(" ")" refl refl is (past g.source g.image (at + 13)) h a.2)
       (omega (arith, a.0.head.long, a.1.head.long, a.3.same))

@@ -5,15 +5,13 @@ use Prim.Native.Nat.{ℕ, zero, suc, ◌+◌, ◌-◌, ◌≤◌, ◌<◌}
 use mathlib.Core.Path.{◌≡◌, refl, sym, ap, ap₂, ◌∙◌}
 use mathlib.Core.Bool.{Bool, true, false, cond, ◌&&◌}
 use mathlib.Core.List.{List, [], ◌∷◌, ◌++◌, map, append-nil, append_assoc}
-use mathlib.Core.Option.{Option, none as nothing, some}
+use Rattle.std.specs.Prelude.{Option, None, Some}
 use native.Mathlib.Omega.{arith}
 use lib.ListN.{length, take, drop}
 use lib.Seq.{take-add, drop-drop}
 use lib.Dec.{ltb, eqb}
 use Rattle.text.specs.Newlines.{count_newlines}
 use Rattle.text.specs.Space.{something}
-use Rattle.text.specs.declared.space.Found.{Found}
-use Rattle.text.specs.declared.space.Found.TheVariants.{At, Nowhere}
 use Rattle.ast.specs.Syntax.{Span}
 use Rattle.rows.specs.Node.{Text, Node, Nodes, group, indent, indent_next, comment, none, ◌then◌, join}
 use Rattle.acts.specs.Act.{Given, St, Out, Act, Asking, next, ◌⨟◌, ◌⨟?◌, ◌⨟!◌, skip, when, push, move_to, pop, step_alone, grouped}
@@ -169,21 +167,21 @@ places_asks a p q = record { from = λ s h. (places_then p (q (a s).1)).from s h
 
 -- ---- the comment rules
 -- the front comment of those left
-front_is : (g : Given) (l : List Span) (k : ℕ) (c : Span) → nth l k ≡ some c
+front_is : (g : Given) (l : List Span) (k : ℕ) (c : Span) → nth l k ≡ Some c
     → (k < length l) × (take 1 (drop k (map (trimmed g) l)) ≡ trimmed g c ∷ [])
 unfolding nth
 front_is g [] k c e = absurd (none_some e)
   where
-    none_some : ◌≡◌ {A = Option Span} nothing (some c) → ⊥
+    none_some : ◌≡◌ {A = Option Span} None (Some c) → ⊥
     none_some h = let z : ◌≡◌ {A = ℕ} 0 1 = cc in omega arith
 front_is g (x ∷ xs) zero c e = (omega arith, ap (λ (y : Span). trimmed g y ∷ []) (some_is e))
   where
-    some_is : some x ≡ some c → x ≡ c
+    some_is : Some x ≡ Some c → x ≡ c
     some_is h = cc
 front_is g (x ∷ xs) (suc k) c e = let r = front_is g xs k c e in (omega (arith, r.0), r.1)
 
 -- a step that takes the front comment and pushes it places that comment
-placed_one : (g : Given) (k : ℕ) (c : Span) (o : Out) → nth g.comments k ≡ some c
+placed_one : (g : Given) (k : ℕ) (c : Span) (o : Out) → nth g.comments k ≡ Some c
     → o.placed ≡ k + 1 → comments_in_nodes o.nodes ≡ trimmed g c ∷ [] → Placed g k o
 placed_one g k c o f e h =
     let r = front_is g g.comments k c f in
@@ -216,7 +214,7 @@ unfolding ignore_newlines comments_in_nodes
 quiet_ignore_newlines g p = record { none = λ s. refl; same = λ s. refl }
 
 -- the step between `pop` and the comment's node
-popped : (g : Given) (c : Span) (q : Act) (p : ℕ) (s : St) → Quiet q → front g s ≡ some c
+popped : (g : Given) (c : Span) (q : Act) (p : ℕ) (s : St) → Quiet q → front g s ≡ Some c
     → Placed g s.placed ((pop ⨟ q ⨟ move_to p ⨟ push_comment g c) s)
 unfolding ◌⨟◌ join comments_in_nodes
 popped g c q p s k f =
@@ -229,7 +227,7 @@ unfolding pop_comments pop_comment
 places_pop_comments g zero p leading = places_skip
 places_pop_comments g (suc n) p leading = record { from = λ s h. turn s h (front g s) refl (places_pop_comments g n p true) }
   where
-    taken : (s : St) (c : Span) → s.placed ≤ length g.comments → front g s ≡ some c → Places g (pop_comments g n p true) → (t : Bool)
+    taken : (s : St) (c : Span) → s.placed ≤ length g.comments → front g s ≡ Some c → Places g (pop_comments g n p true) → (t : Bool)
         → Placed g s.placed (cond t (pop_comment g leading c ⨟ pop_comments g n p true) skip s)
     taken s c h e more true =
         placed_then g (pop_comment g leading c) (pop_comments g n p true) s
@@ -240,9 +238,9 @@ places_pop_comments g (suc n) p leading = record { from = λ s h. turn s h (fron
 
     turn : (s : St) → s.placed ≤ length g.comments → (f : Option Span) → front g s ≡ f → Places g (pop_comments g n p true)
         → Placed g s.placed
-        (elim f [ nothing ↦ skip s | some c ↦ cond (ltb c.start p) (pop_comment g leading c ⨟ pop_comments g n p true) skip s ])
-    turn s h nothing e more = places_skip.from s h
-    turn s h (some c) e more = taken s c h e more (ltb c.start p)
+        (elim f [ None ↦ skip s | Some c ↦ cond (ltb c.start p) (pop_comment g leading c ⨟ pop_comments g n p true) skip s ])
+    turn s h None e more = places_skip.from s h
+    turn s h (Some c) e more = taken s c h e more (ltb c.start p)
 
 -- `pop_whitespace`, as a step
 pub places_gap : {g : Given} (p : ℕ) (a b c : Bool) → Places g (step_alone (pop_whitespace g p a b c))
@@ -260,23 +258,23 @@ pub places_trailing : {g : Given} → Places g (pop_trailing_comment g)
 unfolding pop_trailing_comment ◌⨟◌ join comments_in_nodes
 places_trailing {g} = record { from = λ s h. found s h (something g.source s.pos) }
   where
-    taken : (s : St) (c : Span) → s.placed ≤ length g.comments → front g s ≡ some c → (t : Bool)
+    taken : (s : St) (c : Span) → s.placed ≤ length g.comments → front g s ≡ Some c → (t : Bool)
         → Placed g s.placed (cond t (pop ⨟ push_comment g c ⨟ move_to c.end) skip s)
     taken s c h e true = placed_one g s.placed c ((pop ⨟ push_comment g c ⨟ move_to c.end) s) e refl refl
     taken s c h e false = places_skip.from s h
 
     turn : (s : St) → s.placed ≤ length g.comments → (place : ℕ) (f : Option Span) → front g s ≡ f
         → Placed g s.placed
-        (elim f [ nothing ↦ skip s | some c ↦ cond (eqb c.start place) (pop ⨟ push_comment g c ⨟ move_to c.end) skip s ])
-    turn s h place nothing e = places_skip.from s h
-    turn s h place (some c) e = taken s c h e (eqb c.start place)
+        (elim f [ None ↦ skip s | Some c ↦ cond (eqb c.start place) (pop ⨟ push_comment g c ⨟ move_to c.end) skip s ])
+    turn s h place None e = places_skip.from s h
+    turn s h place (Some c) e = taken s c h e (eqb c.start place)
 
-    found : (s : St) → s.placed ≤ length g.comments → (f : Found)
+    found : (s : St) → s.placed ≤ length g.comments → (f : Option ℕ)
         → Placed g s.placed
         (elim f [
-          | Nowhere ↦ skip s
-          | At place ↦
-              elim (front g s) [ nothing ↦ skip s | some c ↦ cond (eqb c.start place) (pop ⨟ push_comment g c ⨟ move_to c.end) skip s ]
+          | None ↦ skip s
+          | Some place ↦
+              elim (front g s) [ None ↦ skip s | Some c ↦ cond (eqb c.start place) (pop ⨟ push_comment g c ⨟ move_to c.end) skip s ]
         ])
-    found s h Nowhere = places_skip.from s h
-    found s h (At place) = turn s h place (front g s) refl
+    found s h None = places_skip.from s h
+    found s h (Some place) = turn s h place (front g s) refl

@@ -1,7 +1,6 @@
 -- Closing that keeps the comments that wait (document 02, 4): what `place_waiting` of layout/specs/Closing.antt comes to. proofs/Foot.antt proves the
 -- claims.
-use Rattle.std.specs.Prelude.{ℕ, ◌≤◌, ◌≡◌, true, List, [], ◌∷◌, length}
-use Rattle.std.proofs.Math.Option.{none as nothing}
+use Rattle.std.specs.Prelude.{ℕ, ◌≤◌, ◌≡◌, true, List, [], ◌∷◌, length, None as nothing}
 use Rattle.ast.specs.Syntax.{Declaration, SyntaxTree}
 use Rattle.tree.specs.CommentList.{span, comments_of}
 use Rattle.rows.specs.Node.{Node, comment, line, empty_line, none, ◌then◌}

@@ -1,7 +1,6 @@
 -- How many records of the image are inside one another: in a tree as it was read, and at a part of the syntax tree, where texts, paths,
 -- patterns, operators and literals are left out.
-use Rattle.std.specs.Prelude.{ℕ, ◌+◌, max, List, [], ◌∷◌}
-use Rattle.std.proofs.Math.Option.{Option, none, some}
+use Rattle.std.specs.Prelude.{ℕ, ◌+◌, max, List, [], ◌∷◌, Option, None, Some}
 use Rattle.image.specs.Read.{Tree, Trees, absent, node, nil, ◌▸◌}
 use Rattle.ast.specs.Syntax.{TypeExpr, type, TypeForm, option, type_path, never, unit, record_type, TypeArgs, no_args, args, Types, no_types, ◌∷ᵗ◌}
 use Rattle.ast.specs.Syntax.{Fields, no_fields, field, Import, import, ImportGroup, no_group, group, Imports, no_imports, ◌∷ⁱ◌, Expr, expr, Form}
@@ -56,8 +55,8 @@ unfoldable mutual
   imports_height (i ∷ⁱ is) = max (import_height i) (imports_height is)
 
 abbrev pub maybe_type_height : Option TypeExpr → ℕ
-maybe_type_height none = 0
-maybe_type_height (some t) = type_height t
+maybe_type_height None = 0
+maybe_type_height (Some t) = type_height t
 
 unfoldable mutual
   pub expr_height : Expr → ℕ

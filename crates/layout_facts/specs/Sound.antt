@@ -1,8 +1,7 @@
 -- What the layout rules keep to: how many rows and numbers they need, how deep the rows are, where the texts lie and what they measure, where
 -- the position is.
-use Rattle.std.specs.Prelude.{ℕ, ◌+◌, ◌*◌, ◌-◌, ◌≤◌, ◌≡◌, List, [], ◌∷◌, length, get_or}
+use Rattle.std.specs.Prelude.{ℕ, ◌+◌, ◌*◌, ◌-◌, ◌≤◌, ◌≡◌, List, [], ◌∷◌, length, get_or, Some}
 use Prim.Native.String.{String}
-use Rattle.std.proofs.Math.Option.{some}
 use Rattle.image.specs.Bytes.{be16}
 use Rattle.ast.specs.Syntax.{Span}
 use Rattle.rows.specs.Node.{Text, Node, Nodes, group, indent, indent_next, wrap_parent, comment, str, ascii, line, empty_line, line_or_space, if_wrap, call}
@@ -56,7 +55,7 @@ pub record Ranged (s : List ℕ) (p : Span) : Type 0 where
 
 -- the comments are ranges of the source
 pub record Commented (g : Given) : Type 0 where
-  pub ranged : (k : ℕ) (c : Span) → nth g.comments k ≡ some c → Ranged g.source c
+  pub ranged : (k : ℕ) (c : Span) → nth g.comments k ≡ Some c → Ranged g.source c
 
 -- Rows are reckoned against the image's bytes in points: a byte gives 5 and a row takes 13. So a record's head, 13 bytes, gives five rows.
 abbrev pub BYTE_GIVES : ℕ

@@ -1,51 +1,40 @@
-// Texts and numbers put into an output, and the line `refused N at P`.
+// Numbers in decimal, and the line `refused N at P`.
 #![tactic(auto)]
 
-ghost use Rattle.std.specs.Prelude.{◌≡◌, ◌+◌, ◌≤◌, length};
-ghost use Rattle.std.proofs.lemmas.List.Edits.{sets};
-ghost use Rattle.lines.specs.Lines.{decimal_in, refused_line};
+ghost use Rattle.std.specs.Prelude.{◌≡◌, ◌+◌, ◌≤◌, ◌++◌, length};
+ghost use Rattle.refusals.specs.Reasons.{refusal};
+ghost use Rattle.lines.specs.Lines.{decimal, refused_line};
 
-// A number of 64 bits has 20 digits at most.
+use arrayvec::ArrayString;
+use itoa::Buffer;
+use refusals::Refused;
+
+/// A number of 64 bits has 20 digits at most.
 pub const DIGITS: usize = 20;
 
-// Puts a text at a place, and returns where it ends.
-pub fn put_text(out: &mut [u8], at: usize, text: &[u8]) -> usize
-    requires { at + length text.now ≤ length out.old }
-    ensures { (out.new ≡ sets out.old at text.now) × (result ≡ at + length text.now) }
+/// Room for the line of a refusal.
+pub const REFUSED_ROOM: usize = 64;
+
+/// Appends a number in decimal.
+#[tactic(auto, using(crate::proofs::Lines::same_decimal, crate::proofs::Lines::decimal_short))]
+pub fn put_decimal<const N: usize>(line: &mut ArrayString<N>, n: usize)
+    requires { length line.old.bytes + DIGITS ≤ N }
+    ensures bytes { line.new.bytes ≡ line.old.bytes ++ decimal n }
+    ensures len { length line.new.bytes ≤ length line.old.bytes + DIGITS }
 {
-    let mut j: usize = 0;
-    while j < text.len() {
-        out[at + j] = text[j];
-        j += 1;
-    }
-    at + j
+    line.push_str(Buffer::new().format(n));
 }
 
-// Puts a number in decimal, of `most` digits at most, at a place, and returns where it ends.
-pub fn put_decimal(out: &mut [u8], at: usize, n: usize, most: usize) -> usize
-    requires { at + most ≤ length out.old }
-    ensures { (out.new ≡ sets out.old at (decimal_in most n)) × ((result ≡ at + length (decimal_in most n)) × (result ≤ at + most)) }
+/// The line of a refusal.
+#[tactic(auto, unfolding(rows::specs::Ascii::bytes))]
+pub fn refused_line(refused: Refused) -> ArrayString<REFUSED_ROOM>
+    ensures { result.bytes ≡ refused_line (refusal refused) }
 {
-    if most == 0 {
-        return at;
-    }
-    if n < 10 {
-        out[at] = b'0' + n as u8;
-        return at + 1;
-    }
-    let last = put_decimal(out, at, n / 10, most - 1);
-    out[last] = b'0' + (n % 10) as u8;
-    last + 1
-}
-
-// Puts the line at the start of the output, and returns where it ends.
-pub fn refused_line(out: &mut [u8], number: u8, place: usize) -> usize
-    requires { 64 ≤ length out.old }
-    ensures { (out.new ≡ sets out.old 0 (refused_line (record { number = number; place = place }))) × (result ≡ length (refused_line (record { number = number; place = place }))) }
-{
-    let a = put_text(out, 0, b"refused ");
-    let b = put_decimal(out, a, number as usize, DIGITS);
-    let c = put_text(out, b, b" at ");
-    let d = put_decimal(out, c, place, DIGITS);
-    put_text(out, d, b"\n")
+    let mut line = ArrayString::new();
+    line.push_str("refused ");
+    put_decimal(&mut line, usize::from(refused.number()));
+    line.push_str(" at ");
+    put_decimal(&mut line, refused.place);
+    line.push_str("\n");
+    line
 }

@@ -1,19 +1,20 @@
 -- The loops that clear marks, put them aside and put them back: going on from here gives the whole.
 -- Assumes nothing.
 use mathlib.Core.Path.{◌≡◌, refl, ap, ap₂, sym, ◌∙◌}
-use Prim.Native.Nat.{ℕ, suc, ◌+◌, ◌*◌, ◌/◌, ◌%◌, ◌-◌, ◌≤◌, ◌<◌}
+use Prim.Native.Nat.{ℕ, zero, suc, ◌+◌, ◌*◌, ◌/◌, ◌%◌, ◌-◌, ◌≤◌, ◌<◌}
 use native.Mathlib.Omega.{arith}
 use native.Mathlib.Numerals.{add-one}
-use mathlib.Core.Bool.{Bool, true, false, cond}
+use mathlib.Core.Logic.{◌⊎◌, inl, inr}
 use mathlib.Core.List.{List, [], ◌∷◌}
-use lib.ListN.{length, get_or, set, length-set, get_or-eq_default}
-use lib.Seq.{set_out}
-use lib.Dec.{ltb}
-use borrow.Author.Tests.{lt-ltb, le-ltb, ne_eqb}
+use lib.ListN.{length, get_or, set, replicate, length-set, length-replicate}
+use lib.Seq.{sets}
+use borrow.Rule.Slice.PartMut.{put_mid, mid_of, mid_len}
+use borrow.Author.Tests.{ne_eqb}
 use Rattle.rows.specs.Kinds.{GROUP, IF_WRAP, CALL}
 use Rattle.rows.specs.Places.{KIND, NUMBER, SECOND_NUMBER, WIDTH, PLACES}
 use Rattle.laws.proofs.Numbers.{one_more}
 use Rattle.rows.specs.View.{cell}
+use Rattle.rows.proofs.Part.{part_sets}
 use Rattle.marks.proofs.Restored.{clear_length, restore_length}
 use Rattle.marks.specs.Marks.{clear, saved, cleared_all, restore, clear_from, numbers_of, packed_marks}
 use Rattle.marks.specs.Marks.{unpacked_marks, Held, held, row_aside, put_aside, row_back, put_back}
@@ -21,65 +22,32 @@ use Rattle.marks.specs.Marks.{unpacked_marks, Held, held, row_aside, put_aside, 
 none_left : (stop row : ℕ) → stop ≤ row → stop - row ≡ 0
 none_left stop row h = omega arith
 
-pub record Clearing (marks0 : List ℕ) (from to : ℕ) (marks : List ℕ) (number : ℕ) : Type 0 where
-  pub size : length marks ≡ length marks0
-  pub whole : clear_from (to - number) number marks ≡ clear_from (to - from) from marks0
-
-pub clearing_start : (m : List ℕ) (from to : ℕ) → Clearing m from to m from
-clearing_start m from to = record { size = refl; whole = refl }
-
-clear_some : (n i : ℕ) (m : List ℕ) → clear_from (suc n) i m ≡ clear_from n (suc i) (set m i 0)
+-- the marks from one number up to another, written over with 0
+sets_clear : (n i : ℕ) (m : List ℕ) → sets m i (replicate n 0) ≡ clear_from n i m
 unfolding clear_from
-clear_some n i m = refl
+sets_clear zero i m = refl
+sets_clear (suc n) i m = sets_clear n (suc i) (set m i 0)
 
-clear_none : (n i : ℕ) (m : List ℕ) → n ≡ 0 → clear_from n i m ≡ m
+pub cleared_part : (m zeros : List ℕ) (from to : ℕ) → from < to → to ≤ length m → zeros ≡ replicate (length (mid_of from (to - from) m)) 0
+    → put_mid from (to - from) m zeros ≡ clear_from (to - from) from m
+cleared_part m zeros from to h l e =
+    rw (e, mid_len from to m l) (part_sets (replicate (to - from) 0) m from (to - from) (length-replicate (to - from) 0) (omega arith) ∙ sets_clear (to - from) from m)
+
+pub cleared_none : (n i : ℕ) (m : List ℕ) → n ≡ 0 → m ≡ clear_from n i m
 unfolding clear_from
-clear_none n i m e = rw e
-
-pub clearing_more : (m0 : List ℕ) (from to : ℕ) (m : List ℕ) (k : ℕ) → Clearing m0 from to m k → k < to → Clearing m0 from to (set m k 0) (k + 1)
-clearing_more m0 from to m k c h =
-    record {
-      size = length-set m k 0 ∙ c.size;
-      whole =
-          ap (λ (j : ℕ). clear_from (to - (k + 1)) j (set m k 0)) (add-one k)
-          ∙ sym (clear_some (to - (k + 1)) k m)
-          ∙ ap (λ (n : ℕ). clear_from n k m) (sym (one_more to k h))
-          ∙ c.whole;
-    }
-
-pub clearing_end : (m0 : List ℕ) (from to : ℕ) (m : List ℕ) (k : ℕ) → Clearing m0 from to m k → to ≤ k → m ≡ clear_from (to - from) from m0
-clearing_end m0 from to m k c h = sym (clear_none (to - k) k m (none_left to k h)) ∙ c.whole
-
--- the mark of a number that is past the marks, not in use, in use
-pub past_mark : (m : List ℕ) (n : ℕ) → length m ≤ n → 0 ≡ get_or m n 0
-past_mark m n h = sym (get_or-eq_default m 0 h)
-
-pub clear_past : (u : ℕ) (m : List ℕ) (n : ℕ) → length m ≤ n → m ≡ clear u n m
-clear_past u m n h = go (ltb n u)
-  where
-    go : (b : Bool) → m ≡ cond b m (set m n 0)
-    go true = refl
-    go false = sym (set_out m n 0 h)
-
-pub clear_new : (u : ℕ) (m : List ℕ) (n : ℕ) → u ≤ n → set m n 0 ≡ clear u n m
-clear_new u m n h = rw (le-ltb n u h)
-
-pub clear_old : (u : ℕ) (m : List ℕ) (n : ℕ) → n < u → m ≡ clear u n m
-clear_old u m n h = rw (lt-ltb n u h)
+cleared_none n i m e = rw e
 
 -- the numbers of a row, by what the code tests
 pub numbers_call : (s : List ℕ) (i kind a b : ℕ) → kind ≡ cell s i KIND → a ≡ cell s i NUMBER
     → b ≡ cell s i SECOND_NUMBER → kind ≡ CALL → a ∷ b ∷ [] ≡ numbers_of s i
 numbers_call s i kind a b e f g k = rw (← e, k, f, g)
 
-pub numbers_group : (s : List ℕ) (i kind a : ℕ) → kind ≡ cell s i KIND → a ≡ cell s i NUMBER → kind ≡ GROUP → a ∷ [] ≡ numbers_of s i
-numbers_group s i kind a e f k = rw (← e, k, f)
+pub numbers_one : (s : List ℕ) (i kind a : ℕ) → kind ≡ cell s i KIND → a ≡ cell s i NUMBER → (kind ≡ GROUP) ⊎ (kind ≡ IF_WRAP) → a ∷ [] ≡ numbers_of s i
+numbers_one s i kind a e f (inl k) = rw (← e, k, f)
+numbers_one s i kind a e f (inr k) = rw (← e, k, f)
 
-pub numbers_if : (s : List ℕ) (i kind a : ℕ) → kind ≡ cell s i KIND → a ≡ cell s i NUMBER → kind ≡ IF_WRAP → a ∷ [] ≡ numbers_of s i
-numbers_if s i kind a e f k = rw (← e, k, f)
-
-pub numbers_none : (s : List ℕ) (i kind : ℕ) → kind ≡ cell s i KIND → (kind ≡ CALL → ⊥) → (kind ≡ GROUP → ⊥) → (kind ≡ IF_WRAP → ⊥) → [] ≡ numbers_of s i
-numbers_none s i kind e a b c = rw (← e, ne_eqb kind 11 a, ne_eqb kind 0 b, ne_eqb kind 10 c)
+pub numbers_none : (s : List ℕ) (i kind : ℕ) → kind ≡ cell s i KIND → (kind ≡ CALL → ⊥) → ((kind ≡ GROUP) ⊎ (kind ≡ IF_WRAP) → ⊥) → [] ≡ numbers_of s i
+numbers_none s i kind e a b = rw (← e, ne_eqb kind 11 a, ne_eqb kind 0 (λ q. b (inl q)), ne_eqb kind 10 (λ q. b (inr q)))
 
 pack_two : (x y : ℕ) → x + 256 * y ≡ packed_marks (x ∷ y ∷ [])
 unfolding packed_marks

@@ -29,9 +29,6 @@ pub record Needing (s : List ℕ) (from stop most row : ℕ) : Type 0 where
   pub high : row ≤ stop
   pub same : max most (marks_needed (stop - row) s row) ≡ marks_needed (stop - from) s from
 
-pub needing_start : (s : List ℕ) (from stop : ℕ) → from ≤ stop → Needing s from stop 0 from
-needing_start s from stop h = record { high = h; same = omega arith }
-
 needed_some : (n : ℕ) (s : List ℕ) (i : ℕ) → marks_needed (suc n) s i ≡ max (row_marks s i) (marks_needed n s (suc i))
 unfolding marks_needed
 needed_some n s i = refl

@@ -10,12 +10,6 @@ use rows::store::place;
 // The values of a byte.
 const BYTE: u32 = 256;
 
-fn wide_mark(mark: u8) -> u32
-    ensures { (result ≡ mark) × (result < BYTE) }
-{
-    mark as u32
-}
-
 // Reads the mark of a number, and clears it if the number is not in use.
 fn take_mark(marks: &mut [u8], in_use: usize, number: usize) -> u32
     ensures { (result ≡ get_or marks.old number 0) × ((result < BYTE) × (marks.new ≡ clear in_use number marks.old)) }
@@ -23,12 +17,11 @@ fn take_mark(marks: &mut [u8], in_use: usize, number: usize) -> u32
     if marks.len() <= number {
         return 0;
     }
-    let old = wide_mark(marks[number]);
+    let old = marks[number];
     if in_use <= number {
         marks[number] = 0;
-        return old;
     }
-    old
+    u32::from(old)
 }
 
 // Puts the old marks of a row's numbers aside in its width place.
@@ -36,24 +29,18 @@ fn row_aside(store: &mut [u32], marks: &mut [u8], in_use: usize, row: usize)
     requires { row * PLACES + WIDTH < length store.old }
     ensures { held store.new marks.new ≡ row_aside in_use (numbers_of store.old row) (held store.old marks.old) row }
 {
-    let kind = place(store, row, KIND);
     let number = place(store, row, NUMBER);
-    let second = place(store, row, SECOND_NUMBER);
-    if kind == CALL {
-        let one = take_mark(marks, in_use, number);
-        let two = take_mark(marks, in_use, second);
-        store[row * PLACES + WIDTH] = one + BYTE * two;
-        return;
-    }
-    if kind == GROUP {
-        let one = take_mark(marks, in_use, number);
-        store[row * PLACES + WIDTH] = one;
-        return;
-    }
-    if kind == IF_WRAP {
-        let one = take_mark(marks, in_use, number);
-        store[row * PLACES + WIDTH] = one;
-        return;
+    match place(store, row, KIND) {
+        CALL => {
+            let second = place(store, row, SECOND_NUMBER);
+            let one = take_mark(marks, in_use, number);
+            let two = take_mark(marks, in_use, second);
+            store[row * PLACES + WIDTH] = one + BYTE * two;
+        }
+        GROUP | IF_WRAP => {
+            store[row * PLACES + WIDTH] = take_mark(marks, in_use, number);
+        }
+        _ => {}
     }
 }
 
@@ -63,14 +50,7 @@ fn set_mark(marks: &mut [u8], number: usize, mark: u8)
 {
     if number < marks.len() {
         marks[number] = mark;
-        return;
     }
-}
-
-fn low_mark(x: u32) -> u8
-    ensures { result ≡ x % BYTE }
-{
-    (x % BYTE) as u8
 }
 
 // Puts the old marks of a row's numbers back, and clears its width place.
@@ -78,25 +58,23 @@ fn row_back(store: &mut [u32], marks: &mut [u8], row: usize)
     requires { row * PLACES + WIDTH < length store.old }
     ensures { held store.new marks.new ≡ row_back (numbers_of store.old row) (held store.old marks.old) row }
 {
-    let kind = place(store, row, KIND);
     let number = place(store, row, NUMBER);
-    let second = place(store, row, SECOND_NUMBER);
     let old = store[row * PLACES + WIDTH];
-    if kind == CALL {
-        set_mark(marks, second, low_mark(old / BYTE));
-        set_mark(marks, number, low_mark(old));
-        store[row * PLACES + WIDTH] = 0;
-        return;
-    }
-    if kind == GROUP {
-        set_mark(marks, number, low_mark(old));
-        store[row * PLACES + WIDTH] = 0;
-        return;
-    }
-    if kind == IF_WRAP {
-        set_mark(marks, number, low_mark(old));
-        store[row * PLACES + WIDTH] = 0;
-        return;
+    match place(store, row, KIND) {
+        CALL => {
+            set_mark(
+                marks,
+                place(store, row, SECOND_NUMBER),
+                (old / BYTE % BYTE) as u8,
+            );
+            set_mark(marks, number, (old % BYTE) as u8);
+            store[row * PLACES + WIDTH] = 0;
+        }
+        GROUP | IF_WRAP => {
+            set_mark(marks, number, (old % BYTE) as u8);
+            store[row * PLACES + WIDTH] = 0;
+        }
+        _ => {}
     }
 }
 
@@ -105,10 +83,8 @@ pub fn put_aside(store: &mut [u32], marks: &mut [u8], in_use: usize, from: usize
     requires { stop * PLACES ≤ length store.old }
     ensures { held store.new marks.new ≡ put_aside (stop - from) in_use (held store.old marks.old) from }
 {
-    let mut row = from;
-    while row < stop {
+    for row in from..stop {
         row_aside(store, marks, in_use, row);
-        row += 1;
     }
 }
 
@@ -117,9 +93,7 @@ pub fn put_back(store: &mut [u32], marks: &mut [u8], from: usize, stop: usize)
     requires { (from ≤ stop) × (stop * PLACES ≤ length store.old) }
     ensures { held store.new marks.new ≡ put_back (stop - from) (held store.old marks.old) from }
 {
-    let mut row = stop;
-    while from < row {
-        row -= 1;
+    for row in (from..stop).rev() {
         row_back(store, marks, row);
     }
 }

@@ -2,7 +2,7 @@
 -- Assumes nothing.
 use mathlib.Core.Path.{◌≡◌, refl, sym, ap, ◌∙◌}
 use mathlib.Core.Bool.{Bool, true, false, not, ◌||◌}
-use mathlib.Core.Option.{Option, none, some}
+use Rattle.std.specs.Prelude.{Option, None, Some}
 use mathlib.Core.List.{List, [], ◌∷◌, ◌++◌}
 use Prim.Native.Nat.{ℕ}
 use borrow.Author.Tests.{not-true, not-false}
@@ -39,44 +39,44 @@ group_passes x y xs ys e h f =
 -- ---- lines of a table
 pub first_append : (os ps : List (Option Refusal)) → first (os ++ ps) ≡ or_else (first os) (first ps)
 first_append [] ps = refl
-first_append (some r ∷ os) ps = refl
-first_append (none ∷ os) ps = first_append os ps
+first_append (Some r ∷ os) ps = refl
+first_append (None ∷ os) ps = first_append os ps
 
 -- a part that refuses, refuses
-pub refuses_left : (r : Refusal) (os ps : List (Option Refusal)) → first os ≡ some r → first (os ++ ps) ≡ some r
+pub refuses_left : (r : Refusal) (os ps : List (Option Refusal)) → first os ≡ Some r → first (os ++ ps) ≡ Some r
 refuses_left r os ps e = first_append os ps ∙ ap (λ (o : Option Refusal). or_else o (first ps)) e
 
 -- one that doesn't, leaves it to the rest
-pub left_to : (os ps : List (Option Refusal)) → first os ≡ none → first (os ++ ps) ≡ first ps
+pub left_to : (os ps : List (Option Refusal)) → first os ≡ None → first (os ++ ps) ≡ first ps
 left_to os ps e = first_append os ps ∙ ap (λ (o : Option Refusal). or_else o (first ps)) e
 
 -- no line refuses, so none of a part does
-or_none_first : (o p : Option Refusal) → or_else o p ≡ none → o ≡ none
-or_none_first none p e = refl
-or_none_first (some r) p e = absurd (never r e)
+or_none_first : (o p : Option Refusal) → or_else o p ≡ None → o ≡ None
+or_none_first None p e = refl
+or_none_first (Some r) p e = absurd (never r e)
 
-or_none_rest : (o p : Option Refusal) → or_else o p ≡ none → p ≡ none
-or_none_rest none p e = e
-or_none_rest (some r) p e = absurd (never r e)
+or_none_rest : (o p : Option Refusal) → or_else o p ≡ None → p ≡ None
+or_none_rest None p e = e
+or_none_rest (Some r) p e = absurd (never r e)
 
-pub passes_left : (os ps : List (Option Refusal)) → first (os ++ ps) ≡ none → first os ≡ none
+pub passes_left : (os ps : List (Option Refusal)) → first (os ++ ps) ≡ None → first os ≡ None
 passes_left os ps e = or_none_first (first os) (first ps) (sym (first_append os ps) ∙ e)
 
-pub passes_right : (os ps : List (Option Refusal)) → first (os ++ ps) ≡ none → first ps ≡ none
+pub passes_right : (os ps : List (Option Refusal)) → first (os ++ ps) ≡ None → first ps ≡ None
 passes_right os ps e = or_none_rest (first os) (first ps) (sym (first_append os ps) ∙ e)
 
 -- the first line, and the others
-pub passes_line : (o : Option Refusal) (os : List (Option Refusal)) → first (o ∷ os) ≡ none → o ≡ none
+pub passes_line : (o : Option Refusal) (os : List (Option Refusal)) → first (o ∷ os) ≡ None → o ≡ None
 passes_line o os e = or_none_first o (first os) e
 
-pub passes_others : (o : Option Refusal) (os : List (Option Refusal)) → first (o ∷ os) ≡ none → first os ≡ none
+pub passes_others : (o : Option Refusal) (os : List (Option Refusal)) → first (o ∷ os) ≡ None → first os ≡ None
 passes_others o os e = or_none_rest o (first os) e
 
 -- what a line that does not refuse tells
-pub not_if : (b : Bool) (n p : ℕ) → refuse_if b n p ≡ none → b ≡ false
+pub not_if : (b : Bool) (n p : ℕ) → refuse_if b n p ≡ None → b ≡ false
 not_if false n p e = refl
 not_if true n p e = absurd (never _ e)
 
-pub not_at : (o : Option ℕ) (n : ℕ) → refuse_at o n ≡ none → o ≡ none
-not_at none n e = refl
-not_at (some p) n e = absurd (never _ e)
+pub not_at : (o : Option ℕ) (n : ℕ) → refuse_at o n ≡ None → o ≡ None
+not_at None n e = refl
+not_at (Some p) n e = absurd (never _ e)

@@ -1,2 +1,3 @@
 pub mod Groups
 pub mod Answers
+pub mod Passed

@@ -1,6 +1,5 @@
 -- What every entry answers: a refusal, or what it gives where it accepts.
-use Rattle.std.proofs.Math.Option.{Option, none, some}
-use Rattle.std.specs.Prelude.{List, [], ◌∷◌, ℕ}
+use Rattle.std.specs.Prelude.{List, [], ◌∷◌, ℕ, Option, None, Some}
 use Rattle.std.proofs.lemmas.List.Edits.{sets}
 use Rattle.refusals.specs.Refusals.{Refusal}
 
@@ -10,13 +9,13 @@ pub data Answer (A : Type 0) : Type 0 where
 
 -- by the table: its refusal, or what is given where it has none
 abbrev pub answer_by : {A : Type 0} → Option Refusal → A → Answer A
-answer_by (some r) a = refused r
-answer_by none a = accepted a
+answer_by (Some r) a = refused r
+answer_by None a = accepted a
 
 -- the refusal of an answer, or none
 abbrev pub refusal_of : {A : Type 0} → Answer A → Option Refusal
-refusal_of (refused r) = some r
-refusal_of (accepted a) = none
+refusal_of (refused r) = Some r
+refusal_of (accepted a) = None
 
 -- an answer in an array: number and place, or 0 and the numbers of what is given; the places behind stay as they were
 abbrev pub numbers_of : {A : Type 0} → (A → List ℕ) → Answer A → List ℕ → List ℕ

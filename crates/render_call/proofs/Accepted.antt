@@ -2,7 +2,7 @@
 -- Assumes nothing.
 use mathlib.Core.Path.{◌≡◌}
 use mathlib.Core.Bool.{false}
-use mathlib.Core.Option.{none}
+use Rattle.std.specs.Prelude.{None}
 use mathlib.Core.List.{List}
 use Prim.Native.Nat.{ℕ, ◌-◌, ◌*◌, ◌≤◌}
 use lib.ListN.{length, take}
@@ -19,7 +19,7 @@ use Rattle.render_call.specs.declared.RenderArgs.{RenderArgs}
 use Rattle.render_call.proofs.Tests.{stop_within}
 
 pub record Accepted (source image : List ℕ) (state : RenderState) (args : RenderArgs) (store marks : List ℕ) : Type 0 where
-  pub right : wrong_place source image store state.row args.stop ≡ none
+  pub right : wrong_place source image store state.row args.stop ≡ None
   pub within : args.stop * PLACES ≤ length store
   pub ahead : state.row ≤ args.stop
   pub indent : state.indent ≤ MAX_INDENT
@@ -30,7 +30,7 @@ pub record Accepted (source image : List ℕ) (state : RenderState) (args : Rend
   pub enough : marks_needed (args.stop - state.row) store state.row ≤ length marks
 
 pub accepted : (source image : List ℕ) (state : RenderState) (args : RenderArgs) (store marks : List ℕ)
-    → run_refusal source image args state store marks ≡ none → Accepted source image state args store marks
+    → run_refusal source image args state store marks ≡ None → Accepted source image state args store marks
 accepted source image state args store marks e =
     let told = before_told (parts_of source image) (to_args args 0) (to_state state) store marks e in
     let fits = told.checked.fits in

@@ -2,7 +2,7 @@
 -- Assumes nothing.
 use mathlib.Core.Path.{◌≡◌, refl, sym, ap, ap₂, subst₂, ◌∙◌}
 use mathlib.Core.Bool.{Bool, true, false, cond, ◌&&◌, ◌||◌}
-use mathlib.Core.List.{List, ◌++◌, append_assoc}
+use mathlib.Core.List.{List, [], ◌++◌, append_assoc}
 use Prim.Native.Nat.{ℕ, ◌+◌, ◌-◌, ◌≤◌}
 use native.Mathlib.Omega.{arith}
 use lib.ListN.{length, get_or, take, drop, replicate, length-append, length-replicate}
@@ -19,7 +19,6 @@ use Rattle.renderer_rules.proofs.Names.{renders_same}
 use Rattle.renderer_rules.proofs.OwnMarks.{Agree, Inside, renders_alike}
 use Rattle.renderer.specs.Run.{Ended}
 use Rattle.renderer.specs.declared.writing.Writing.{Writing}
-use Rattle.renderer.proofs.Outcome.{over_dry}
 use Rattle.cut_rule.specs.Parts as cut
 use Rattle.marks.specs.Marks.{marks_needed, clear_from, Held, held, put_aside, put_back}
 use Rattle.marks.proofs.Undone.{owns, Bytes, Unused, undone}
@@ -141,16 +140,16 @@ module _ (source image : List ℕ) (state : RenderState) (args : RenderArgs) (st
     same_view = ap (λ (h : Held). view_of h.rows) e ∙ aside_view count state.in_use (held store marks) state.row
 
     -- the run with limit 0, and the marks put back
-    module _ (p q : Writing) (k : Takes state p) (b : Bytes marks) (out marks3 out3 rows4 marks4 : List ℕ)
+    module _ (p q : Writing) (k : Takes state p) (b : Bytes marks) (marks3 out3 rows4 marks4 : List ℕ)
         (r : Ended 0
         (render_nodes (page_of args.width.0 source image) (nodes_at (view_of rows2) state.row args.stop) true (fresh_renderer p.pen marks2))
-        out marks3 out3 q)
+        [] marks3 out3 q)
         (f : held rows4 marks4 ≡ put_back count (held rows2 marks3) state.row) where
-      dry : Ended 0 (rendered (fresh_renderer p.pen aside.marks)) out marks3 out3 q
+      dry : Ended 0 (rendered (fresh_renderer p.pen aside.marks)) [] marks3 out3 q
       dry =
           subst₂
           (λ (v : View) (m : List ℕ).
-          Ended 0 (render_nodes (page_of args.width.0 source image) (nodes_at v state.row args.stop) true (fresh_renderer p.pen m)) out marks3 out3 q)
+          Ended 0 (render_nodes (page_of args.width.0 source image) (nodes_at v state.row args.stop) true (fresh_renderer p.pen m)) [] marks3 out3 q)
           same_view
           (ap (λ (h : Held). h.marks) e)
           r
@@ -169,15 +168,14 @@ module _ (source image : List ℕ) (state : RenderState) (args : RenderArgs) (st
           ∙ (renders_same x (nodes_at (view_of store) state.row args.stop) (page_of args.width.0 source image) true
           (fresh_renderer p.pen aside.marks) (inside x o)).mark)
 
-      pub counted : (n : sizes.Bytes) → n.0 ≡ q.at.0 → Counted source image state args store marks out n rows4 marks4 out3
+      pub counted : (n : sizes.Bytes) → n.0 ≡ q.at.0 → Counted source image state args store marks n rows4 marks4
       counted n g =
           record {
             bytes =
                 g
                 ∙ dry.bytes
                 ∙ ap length (same_text p)
-                ∙ ap (λ (d : cut.Drawn). length d.text) (same source image state args store marks a.ahead out p k behind);
+                ∙ ap (λ (d : cut.Drawn). length d.text) (same source image state args store marks a.ahead [] p k behind);
             store_left_of = ap (λ (h : Held). h.rows) all_back;
             marks_left_of = ap (λ (h : Held). h.marks) all_back;
-            output_left_of = dry.written ∙ over_dry out 0 (rendered (fresh_renderer p.pen aside.marks)).buf;
           }

@@ -2,7 +2,7 @@
 -- Assumes nothing.
 use mathlib.Core.Path.{◌≡◌, sym, ap, ◌∙◌}
 use mathlib.Core.Bool.{Bool}
-use mathlib.Core.Option.{Option, some}
+use Rattle.std.specs.Prelude.{Option, Some, Err}
 use mathlib.Core.List.{List, [], ◌∷◌}
 use Prim.Native.Nat.{ℕ, ◌+◌, ◌*◌, ◌-◌, ◌≤◌, ◌<◌}
 use native.Mathlib.Omega.{arith}
@@ -22,7 +22,8 @@ use Rattle.render_call.specs.Calls.{to_state, to_args, early_refusal, run_refusa
 use Rattle.render_call.specs.Whole.{Draws, Checked, Passing}
 use Rattle.render_call.specs.declared.RenderState.{RenderState}
 use Rattle.render_call.specs.declared.RenderArgs.{RenderArgs}
-use Rattle.render_call.specs.declared.Drawing.TheVariants as drawing
+use Rattle.refusals.specs.declared.Reason.TheVariants as reason
+use Rattle.refusals.specs.declared.Refused.{Refused}
 use Rattle.render_call.proofs.Tests.{stop_within, few_rows}
 use Rattle.render_call.proofs.Whole.{ends_early}
 
@@ -34,7 +35,7 @@ module _ (source image : List ℕ) (state : RenderState) (args : RenderArgs) (st
   behind = marks_line (parts_of source image) (to_args args 0) (to_state state) store marks
 
   -- what refuses first refuses before the run
-  pub refused_early : (r : Refusal) → early_refusal source image args state store marks ≡ some r → run_refusal source image args state store marks ≡ some r
+  pub refused_early : (r : Refusal) → early_refusal source image args state store marks ≡ Some r → run_refusal source image args state store marks ≡ Some r
   refused_early r e = refuses_left r before behind e
 
   module _ (h : Checked source image state args store marks) where
@@ -67,9 +68,9 @@ module _ (source image : List ℕ) (state : RenderState) (args : RenderArgs) (st
         ∙ ap (λ (x : Bool). first (refuse_if x 9 n ∷ [])) f
 
     module _ (n : ℕ) (e : n ≡ marks_needed (args.stop - state.row) store state.row) where
-      pub marks_short : (out : List ℕ) → length marks < n
-          → Draws source image state args store marks out (drawing.Refused 9 n) store marks out
-      marks_short out l = ends_early source image state args store marks out 9 n (by_nine _ n e (lt-ltb (length marks) n l))
+      pub marks_short : (out : List ℕ) → length marks < n → (r : Refused) → r ≡ record { reason = reason.MarksNeeded; place = n }
+          → Draws source image state args store marks out (Err r) store marks out
+      marks_short out l r f = rw f (ends_early source image state args store marks out _ (by_nine _ n e (lt-ltb (length marks) n l)))
 
       pub marks_enough : n ≤ length marks → Passing source image state args store marks
       marks_enough l = record { passes = by_nine _ n e (le-ltb (length marks) n l) }

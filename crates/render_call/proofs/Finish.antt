@@ -2,7 +2,7 @@
 -- Assumes nothing.
 use mathlib.Core.Path.{◌≡◌, ap, ◌∙◌}
 use mathlib.Core.Bool.{true}
-use mathlib.Core.Option.{none}
+use Rattle.std.specs.Prelude.{None, Ok}
 use mathlib.Core.List.{List, ◌++◌}
 use Prim.Native.Nat.{ℕ, ◌-◌, ◌≤◌, max}
 use native.Mathlib.Omega.{arith}
@@ -24,7 +24,6 @@ use Rattle.render_call.specs.Calls.{to_state, run_refusal}
 use Rattle.render_call.specs.Whole.{widest_due, Draws, Takes}
 use Rattle.render_call.specs.declared.RenderState.{RenderState}
 use Rattle.render_call.specs.declared.RenderArgs.{RenderArgs}
-use Rattle.render_call.specs.declared.Drawing.TheVariants as drawing
 use Rattle.render_call.proofs.Whole.{bytes, ends_written}
 use Rattle.render_call.proofs.Ran.{marks_in_use, gives, ran, widest_same, marks_onto, started}
 
@@ -74,9 +73,9 @@ module _ (source image : List ℕ) (state : RenderState) (args : RenderArgs) (st
     end : drawn_by after ≡ with_past given behind
     end = same p k behind
 
-    pub finished : (t : RenderState) (n : Bytes) → run_refusal source image args state store marks ≡ none
+    pub finished : (t : RenderState) (n : Bytes) → run_refusal source image args state store marks ≡ None
         → n.0 ≡ bytes source image state args store marks out → n.0 ≤ length out → Leaves q (max state.in_use needed) args.stop args.width.0 t
-        → Draws source image state args store marks out (drawing.Drawn t n q.widest) store marks2 out2
+        → Draws source image state args store marks out (Ok (record { written = record { state = t; bytes = n }; widest = q.widest })) store marks2 out2
     finished t n e f h l =
         ends_written source image state args store marks out t n q.widest marks2 out2 e f h left_state
         (r.marks ∙ ap (λ (d : cut.Drawn). d.marks) end ∙ marks_onto source image state args store marks ahead)

@@ -1,5 +1,4 @@
 pub mod Tests
-pub mod Table
 pub mod Whole
 pub mod Accepted
 pub mod Early

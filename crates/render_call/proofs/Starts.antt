@@ -1,10 +1,9 @@
 -- A call that nothing refuses before its run may run.
 -- Assumes nothing.
-use mathlib.Core.Path.{refl, sym, ◌∙◌}
+use mathlib.Core.Path.{sym, ◌∙◌}
 use mathlib.Core.List.{List}
-use Prim.Native.Nat.{ℕ, ◌≤◌}
+use Prim.Native.Nat.{ℕ}
 use native.Mathlib.Omega.{arith}
-use lib.ListN.{length}
 use Rattle.rows.specs.View.{view_of}
 use Rattle.rows.specs.Nesting.{Nested}
 use Rattle.renderer_rules.specs.Check.{places_fit}
@@ -32,13 +31,12 @@ module _ (source image : List ℕ) (state : RenderState) (args : RenderArgs) (st
       }
 
   -- from the state's next row, with a pen that has its numbers and wrote nothing yet, over rows that nest as the store's do
-  pub starts : (rows : List ℕ) → Nested rows state.row args.stop → (p : Writing) (limit : ℕ) (out : List ℕ) → Takes state p → limit ≤ length out
-      → Starting rows limit args.stop out (record { depth = 0; next = state.row; writing = p })
-  starts rows nests p limit out k l =
+  pub starts : (rows : List ℕ) → Nested rows state.row args.stop → (p : Writing) → Takes state p → Starting rows state.row args.stop p
+  starts rows nests p k =
       let e = k.indent in
       let f = k.next in
       let g = k.column in
       let i = a.indent in
       let n = a.next in
       let c = a.column in
-      record { none_open = refl; nested = nests; fits = l; margin = omega arith; column = omega arith; at = k.at; widest = k.widest }
+      record { nested = nests; margin = omega arith; column = omega arith; at = k.at; widest = k.widest }

@@ -2,7 +2,7 @@
 -- Assumes nothing.
 use mathlib.Core.Path.{◌≡◌, refl, sym, ap, subst, ◌∙◌}
 use mathlib.Core.Bool.{true}
-use mathlib.Core.List.{List}
+use mathlib.Core.List.{List, []}
 use Prim.Native.Nat.{ℕ, ◌+◌, ◌*◌, ◌-◌, ◌≤◌, ◌<◌, max}
 use native.Mathlib.Omega.{arith}
 use lib.ListN.{length, get_or, drop}
@@ -17,16 +17,15 @@ use Rattle.renderer.specs.declared.writing.Writing.{Writing}
 use Rattle.cut_rule.specs.Parts as cut
 use Rattle.marks.specs.Marks.{marks_needed, clear_from, held, put_aside, put_back}
 use Rattle.whole_run.specs.Parts.{renderer_of}
-use Rattle.render_call.specs.Calls.{to_state, rendering_of, verdict_refusal, early_refusal}
-use Rattle.render_call.specs.Whole.{RenderCalled, Draws, Checked, Counted, Passing, Fitting, Takes, most_of}
+use Rattle.std.specs.Prelude.{Result, Ok, Err}
+use Rattle.refusals.specs.declared.Reason.TheVariants as reason
+use Rattle.refusals.specs.declared.Refused.{Refused}
+use Rattle.refusals.specs.Reasons.{refusal_in}
+use Rattle.render_call.specs.Calls.{to_state, early_refusal}
+use Rattle.render_call.specs.Whole.{RenderCalled, Draws, Counted, Passing, Fitting, Takes, most_of}
 use Rattle.render_call.specs.declared.RenderState.{RenderState}
 use Rattle.render_call.specs.declared.RenderArgs.{RenderArgs}
-use Rattle.render_call.specs.declared.Drawing.{Drawing}
-use Rattle.render_call.specs.declared.Drawing.TheVariants as drawing
-use Rattle.render_call.specs.declared.Rendering.{Rendering}
-use Rattle.render_call.specs.declared.Rendering.TheVariants as rendering
-use Rattle.render_call.specs.declared.refusal.Verdict.{Verdict}
-use Rattle.render_call.specs.declared.refusal.Verdict.TheVariants as verdict
+use Rattle.render_call.specs.declared.Drawn.{Drawn}
 use Rattle.render_call.proofs.Accepted.{Accepted, accepted}
 use Rattle.render_call.proofs.Early.{refused_early}
 use Rattle.render_call.proofs.Starts.{nested, starts}
@@ -60,9 +59,9 @@ module _ (source image : List ℕ) (state : RenderState) (args : RenderArgs) (st
 
   -- ---- the dry run
   module _ (rows2 marks2 : List ℕ) (e : held rows2 marks2 ≡ put_aside (args.stop - state.row) state.in_use (held store marks) state.row) where
-    pub dry_starts : (p : Writing) (out : List ℕ) → Takes state p → Starting rows2 0 args.stop out (record { depth = 0; next = state.row; writing = p })
-    dry_starts p out k =
-        starts source image state args store marks may rows2 (dry.aside_nests source image state args store marks may rows2 marks2 e) p 0 out k (omega arith)
+    pub dry_starts : (p : Writing) → Takes state p → Starting rows2 state.row args.stop p
+    dry_starts p k =
+        starts source image state args store marks may rows2 (dry.aside_nests source image state args store marks may rows2 marks2 e) p k
 
     pub back_within : (state.row ≤ args.stop) × (args.stop * PLACES ≤ length rows2)
     back_within =
@@ -70,35 +69,34 @@ module _ (source image : List ℕ) (state : RenderState) (args : RenderArgs) (st
         let w = may.within in
         (may.ahead, omega arith)
 
-    pub dry_ends : (p q : Writing) → Takes state p → ((k : ℕ) → get_or marks k 0 < 256) → (out marks3 out3 rows4 marks4 : List ℕ)
+    pub dry_ends : (p q : Writing) → Takes state p → ((k : ℕ) → get_or marks k 0 < 256) → (marks3 out3 rows4 marks4 : List ℕ)
         → Ended 0 (render_nodes (page_of args.width.0 source image) (nodes_at (view_of rows2) state.row args.stop) true (fresh_renderer p.pen marks2))
-        out marks3 out3 q
+        [] marks3 out3 q
         → held rows4 marks4 ≡ put_back (args.stop - state.row) (held rows2 marks3) state.row
-        → Counted source image state args store marks out q.at rows4 marks4 out3
-    dry_ends p q k b out marks3 out3 rows4 marks4 r f =
-        dry.counted source image state args store marks may rows2 marks2 e p q k (record { at = b }) out marks3 out3 rows4 marks4 r f q.at refl
+        → Counted source image state args store marks q.at rows4 marks4
+    dry_ends p q k b marks3 out3 rows4 marks4 r f =
+        dry.counted source image state args store marks may rows2 marks2 e p q k (record { at = b }) marks3 out3 rows4 marks4 r f q.at refl
 
   -- too long a text
-  pub ends_ten : (out : List ℕ) (n : Bytes) (store2 marks2 out2 : List ℕ) → Counted source image state args store marks out n store2 marks2 out2
-      → length out2 < n.0
-      → Draws source image state args store marks out (drawing.Refused 10 n.0) store2 marks2 out2
-  ends_ten out n store2 marks2 out2 c l =
-      rw (c.store_left_of, c.marks_left_of, c.output_left_of)
-      (ends_full source image state args store marks out n.0 h.passes c.bytes (let z = ap length c.output_left_of in omega arith))
+  pub ends_ten : (out : List ℕ) (n : Bytes) (store2 marks2 : List ℕ) → Counted source image state args store marks n store2 marks2
+      → length out < n.0
+      → (r : Refused)
+      → r ≡ record { reason = reason.BytesNeeded; place = n.0 }
+      → Draws source image state args store marks out (Err r) store2 marks2 out
+  ends_ten out n store2 marks2 c l r f =
+      rw (f, c.store_left_of, c.marks_left_of) (ends_full source image state args store marks out n.0 h.passes c.bytes l)
 
   -- room for it: the true run, over what the dry run left
-  module _ (out : List ℕ) (n : Bytes) (store2 marks2 out2 : List ℕ) (c : Counted source image state args store marks out n store2 marks2 out2) where
-    pub has_room : n.0 ≤ length out2 → Fitting source image state args store2 marks2 out2
-    has_room l =
-        rw (c.store_left_of, c.marks_left_of, c.output_left_of)
-        (record { passing = h; room = let z = ap length c.output_left_of in let b = c.bytes in omega arith })
+  module _ (n : Bytes) (store2 marks2 : List ℕ) (c : Counted source image state args store marks n store2 marks2) where
+    pub has_room : (out : List ℕ) → n.0 ≤ length out → Fitting source image state args store2 marks2 out
+    has_room out l = rw (c.store_left_of, c.marks_left_of) (record { passing = h; room = let b = c.bytes in omega arith })
 
-    pub still_needed : (n : ℕ) → n ≡ marks_needed (args.stop - state.row) store state.row → n ≡ marks_needed (args.stop - state.row) store2 state.row
-    still_needed n e = rw c.store_left_of e
+    pub still_needed : (k : ℕ) → k ≡ marks_needed (args.stop - state.row) store state.row → k ≡ marks_needed (args.stop - state.row) store2 state.row
+    still_needed k e = rw c.store_left_of e
 
-    pub then_run : (r : Drawing) (marks3 out3 : List ℕ) → Draws source image state args store2 marks2 out2 r store2 marks3 out3
+    pub then_run : (out : List ℕ) (r : Result Drawn Refused) (marks3 out3 : List ℕ) → Draws source image state args store2 marks2 out r store2 marks3 out3
         → Draws source image state args store marks out r store2 marks3 out3
-    then_run r marks3 out3 k = rw c.store_left_of (rw (c.store_left_of, c.marks_left_of, c.output_left_of) at k)
+    then_run out r marks3 out3 k = rw c.store_left_of (rw (c.store_left_of, c.marks_left_of) at k)
 
 -- ---- the true run
 module _ (source image : List ℕ) (state : RenderState) (args : RenderArgs)
@@ -109,9 +107,8 @@ module _ (source image : List ℕ) (state : RenderState) (args : RenderArgs)
   pub marks_within : (n : ℕ) → n ≡ marks_needed (args.stop - state.row) store state.row → n ≤ length marks
   marks_within n e = let w = fine.enough in omega arith
 
-  pub run_starts : (p : Writing) → Takes state p → Starting store (length out) args.stop out (record { depth = 0; next = state.row; writing = p })
-  run_starts p k =
-      starts source image state args store marks fine store (nested source image state args store marks fine) p (length out) out k (omega arith)
+  pub run_starts : (p : Writing) → Takes state p → Starting store state.row args.stop p
+  run_starts p k = starts source image state args store marks fine store (nested source image state args store marks fine) p k
 
   pub run_ends : (p q : Writing) → Takes state p → (n : ℕ) → n ≡ marks_needed (args.stop - state.row) store state.row → (marks2 : List ℕ)
       → marks2 ≡ clear_from (n - state.in_use) state.in_use marks
@@ -122,14 +119,20 @@ module _ (source image : List ℕ) (state : RenderState) (args : RenderArgs)
       → (used : ℕ)
       → used ≡ max state.in_use n
       → Draws source image state args store marks out
-      (drawing.Drawn (record {
-        indent = q.pen.indent;
-        next_indent = q.pen.next_indent;
-        column = q.pen.column;
-        in_use = used;
-        row = args.stop;
-        width = args.width;
-      }) q.at q.widest)
+      (Ok (record {
+        written = record {
+          state = record {
+            indent = q.pen.indent;
+            next_indent = q.pen.next_indent;
+            column = q.pen.column;
+            in_use = used;
+            row = args.stop;
+            width = args.width;
+          };
+          bytes = q.at;
+        };
+        widest = q.widest;
+      }))
       store
       marks3
       out3
@@ -151,21 +154,9 @@ module _ (source image : List ℕ) (state : RenderState) (args : RenderArgs)
       finished source image state args store marks fine.ahead out p k marks3 out3 q run _ q.at h.passing.passes sized (omega arith)
       (record { indent = refl; next = refl; column = refl; in_use = g ∙ ap (λ (z : ℕ). max state.in_use z) e; row = refl; width = refl })
 
--- a call's answer is the rendering without the greatest column
-pub called_as : (source image : List ℕ) (state : RenderState) (args : RenderArgs) (store marks out : List ℕ) (d : Drawing) (store2 marks2 out2 : List ℕ)
-    → Draws source image state args store marks out d store2 marks2 out2
-    → (r : Rendering)
-    → r ≡ rendering_of d
-    → RenderCalled source image state args store marks out r store2 marks2 out2
-called_as source image state args store marks out d store2 marks2 out2 h r e = rw e h.called
-
 -- ---- by what the first tests say
-module _ (source image : List ℕ) (state : RenderState) (args : RenderArgs) (store marks : List ℕ) (v : Verdict)
-    (e : verdict_refusal v ≡ early_refusal source image args state store marks) where
-  pub checked_by : v ≡ verdict.Accepted → Checked source image state args store marks
-  checked_by f = record { passes = sym e ∙ ap verdict_refusal f }
-
-  pub refused_by : (out : List ℕ) (n p : ℕ) → v ≡ verdict.Refused n p
-      → RenderCalled source image state args store marks out (rendering.Refused n p) store marks out
-  refused_by out n p f =
-      (ends_early source image state args store marks out n p (refused_early source image state args store marks _ (sym e ∙ ap verdict_refusal f))).called
+module _ (source image : List ℕ) (state : RenderState) (args : RenderArgs) (store marks : List ℕ) (v : Result (Unit {0}) Refused)
+    (e : refusal_in v ≡ early_refusal source image args state store marks) where
+  pub refused_by : (out : List ℕ) (r : Refused) → v ≡ Err r → RenderCalled source image state args store marks out (Err r) store marks out
+  refused_by out r f =
+      (ends_early source image state args store marks out r (refused_early source image state args store marks _ (sym e ∙ ap refusal_in f))).called

@@ -1,7 +1,7 @@
 -- A rendering call by its three ends: refused before the run, too long a text, written.
 -- Assumes nothing.
 use mathlib.Core.Path.{◌≡◌, refl, sym, ap, ◌∙◌}
-use mathlib.Core.Option.{Option, none, some}
+use Rattle.std.specs.Prelude.{Option, None, Some, Ok, Err}
 use mathlib.Core.List.{List, [], ◌∷◌}
 use Prim.Native.Nat.{ℕ, ◌≤◌, ◌<◌}
 use lib.ListN.{length}
@@ -23,7 +23,9 @@ use Rattle.render_call.specs.Calls.{to_state, to_args, run_refusal}
 use Rattle.render_call.specs.Whole.{widest_due, Draws}
 use Rattle.render_call.specs.declared.RenderState.{RenderState}
 use Rattle.render_call.specs.declared.RenderArgs.{RenderArgs}
-use Rattle.render_call.specs.declared.Drawing.TheVariants as drawing
+use Rattle.refusals.specs.declared.Reason.TheVariants as reason
+use Rattle.refusals.specs.declared.Refused.{Refused}
+use Rattle.refusals.specs.Reasons.{refusal}
 
 module _ (s b : List ℕ) (state : RenderState) (args : RenderArgs) (store marks out : List ℕ) where
   -- the table, for this call
@@ -45,8 +47,8 @@ module _ (s b : List ℕ) (state : RenderState) (args : RenderArgs) (store marks
   abbrev gives : RenderResult states.RenderState
   gives = render_gives (rules_of s b) (to_args args (length out)) (to_state state) store marks
 
-  refused_by : (n p : ℕ) → table ≡ some (record { number = n; place = p }) → Draws s b state args store marks out (drawing.Refused n p) store marks out
-  refused_by n p e =
+  refused_by : (r : Refused) → table ≡ Some (refusal r) → Draws s b state args store marks out (Err r) store marks out
+  refused_by r e =
       record {
         called = record {
           answer = ap (λ (t : Option Refusal). answer_by {A = CallResult (rules_of s b)} t (written gives.state (length gives.text))) (sym e);
@@ -58,25 +60,24 @@ module _ (s b : List ℕ) (state : RenderState) (args : RenderArgs) (store marks
       }
 
   -- refused before the run
-  pub ends_early : (n p : ℕ) → run_refusal s b args state store marks ≡ some (record { number = n; place = p })
-      → Draws s b state args store marks out (drawing.Refused n p) store marks out
-  ends_early n p e = refused_by n p (refuses_left _ before behind e)
+  pub ends_early : (r : Refused) → run_refusal s b args state store marks ≡ Some (refusal r) → Draws s b state args store marks out (Err r) store marks out
+  ends_early r e = refused_by r (refuses_left _ before behind e)
 
-  last : run_refusal s b args state store marks ≡ none → table ≡ first (refuse_if (ltb (length out) bytes) 10 bytes ∷ [])
+  last : run_refusal s b args state store marks ≡ None → table ≡ first (refuse_if (ltb (length out) bytes) 10 bytes ∷ [])
   last e = left_to before behind e
 
   -- a text longer than the output
-  pub ends_full : (n : ℕ) → run_refusal s b args state store marks ≡ none → n ≡ bytes → length out < n
-      → Draws s b state args store marks out (drawing.Refused 10 n) store marks out
+  pub ends_full : (n : ℕ) → run_refusal s b args state store marks ≡ None → n ≡ bytes → length out < n
+      → Draws s b state args store marks out (Err (record { reason = reason.BytesNeeded; place = n })) store marks out
   ends_full n e f h =
-      refused_by 10 n
+      refused_by _
       (last e ∙ ap (λ (m : ℕ). first (refuse_if (ltb (length out) m) 10 m ∷ [])) (sym f) ∙ ap (λ t. first (refuse_if t 10 n ∷ [])) (lt-ltb (length out) n h))
 
   -- a text that has room
-  pub ends_written : (t : RenderState) (n : Bytes) (c : Columns) (marks2 out2 : List ℕ) → run_refusal s b args state store marks ≡ none
+  pub ends_written : (t : RenderState) (n : Bytes) (c : Columns) (marks2 out2 : List ℕ) → run_refusal s b args state store marks ≡ None
       → n.0 ≡ bytes → n.0 ≤ length out → to_state t ≡ gives.state → marks2 ≡ write_front gives.marks marks → out2 ≡ write_front gives.text out
       → c.0 ≡ widest_due s b state args store marks
-      → Draws s b state args store marks out (drawing.Drawn t n c) store marks2 out2
+      → Draws s b state args store marks out (Ok (record { written = record { state = t; bytes = n }; widest = c })) store marks2 out2
   ends_written t n c marks2 out2 e f h g m o w =
       record {
         called = record {
@@ -90,7 +91,7 @@ module _ (s b : List ℕ) (state : RenderState) (args : RenderArgs) (store marks
         widest = w ∙ ap (λ (z : Option Refusal). unless z 0 (widest_due s b state args store marks)) (sym none_left);
       }
     where
-      none_left : table ≡ none
+      none_left : table ≡ None
       none_left =
           last e
           ∙ ap (λ (m : ℕ). first (refuse_if (ltb (length out) m) 10 m ∷ [])) (sym f)

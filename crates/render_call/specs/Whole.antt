@@ -1,11 +1,11 @@
 -- What a rendering call answers and leaves. The store is lent so that a dry run can keep old marks in it; it is left as it was.
-use Rattle.std.specs.Prelude.{◌≡◌, List, ℕ, ◌+◌, ◌*◌, ◌-◌, ◌≤◌, length, take}
-use Rattle.std.proofs.Math.Option.{none}
+use Rattle.std.specs.Prelude.{◌≡◌, List, ℕ, ◌+◌, ◌*◌, ◌-◌, ◌≤◌, length, take, None, Result}
 use Rattle.rows.specs.declared.units.Bytes.{Bytes}
 use Rattle.renderer.specs.declared.writing.Writing.{Writing}
 use Rattle.renderer_rules.specs.Most.{rows_most}
 use Rattle.cut_rule.specs.Entries.{render_answer, render_marks, render_output}
 use Rattle.refusals.specs.Refusals.{unless}
+use Rattle.refusals.specs.declared.Refused.{Refused}
 use Rattle.marks.specs.Marks.{marks_needed}
 use Rattle.cut_rule.specs.Parts.{with_cleared, bytes_needed}
 use Rattle.whole_run.specs.Parts.{parts_of, widest_drawn}
@@ -13,11 +13,11 @@ use Rattle.whole_run.specs.Demands.{rules_of}
 use Rattle.render_call.specs.Calls.{to_state, goes_to, to_args, rendering_answer, rendering_of, widest_of, early_refusal, run_refusal}
 use Rattle.render_call.specs.declared.RenderState.{RenderState}
 use Rattle.render_call.specs.declared.RenderArgs.{RenderArgs}
-use Rattle.render_call.specs.declared.Rendering.{Rendering}
-use Rattle.render_call.specs.declared.Drawing.{Drawing}
+use Rattle.render_call.specs.declared.Written.{Written}
+use Rattle.render_call.specs.declared.Drawn.{Drawn}
 
 -- the answer, and store, marks and output at exit, for one source and image: what the caller's state, arguments, store, marks and output give
-pub record RenderCalled (source image : List ℕ) (state : RenderState) (args : RenderArgs) (store marks out : List ℕ) (r : Rendering) (store2 marks2 out2 : List ℕ) : Type 0 where
+pub record RenderCalled (source image : List ℕ) (state : RenderState) (args : RenderArgs) (store marks out : List ℕ) (r : Result Written Refused) (store2 marks2 out2 : List ℕ) : Type 0 where
   pub answer : rendering_answer source image r ≡ render_answer (rules_of source image) (to_args args (length out)) (to_state state) store marks
   pub store_left_of : store2 ≡ store
   pub marks_left_of : marks2 ≡ render_marks (rules_of source image) (to_args args (length out)) (to_state state) store marks
@@ -31,26 +31,25 @@ widest_due source image state args store marks =
     store
 
 -- the same as a call, with the greatest column
-pub record Draws (source image : List ℕ) (state : RenderState) (args : RenderArgs) (store marks out : List ℕ) (d : Drawing) (store2 marks2 out2 : List ℕ) : Type 0 where
+pub record Draws (source image : List ℕ) (state : RenderState) (args : RenderArgs) (store marks out : List ℕ) (d : Result Drawn Refused) (store2 marks2 out2 : List ℕ) : Type 0 where
   pub called : RenderCalled source image state args store marks out (rendering_of d) store2 marks2 out2
   pub widest :
       widest_of d
       ≡ unless ((rules_of source image).render_refusal (to_args args (length out)) (to_state state) store marks) 0 (widest_due source image state args store marks)
 
--- the bytes that the text has, 10's place, with store, marks and output as they were
-pub record Counted (source image : List ℕ) (state : RenderState) (args : RenderArgs) (store marks out : List ℕ) (n : Bytes) (store2 marks2 out2 : List ℕ) : Type 0 where
-  pub bytes : n.0 ≡ bytes_needed (parts_of source image) (to_args args (length out)) (to_state state) store marks
+-- the bytes that the text has, 10's place, with store and marks as they were
+pub record Counted (source image : List ℕ) (state : RenderState) (args : RenderArgs) (store marks : List ℕ) (n : Bytes) (store2 marks2 : List ℕ) : Type 0 where
+  pub bytes : n.0 ≡ bytes_needed (parts_of source image) (to_args args 0) (to_state state) store marks
   pub store_left_of : store2 ≡ store
   pub marks_left_of : marks2 ≡ marks
-  pub output_left_of : out2 ≡ out
 
 -- 1, 3, 11, 12 and 15 do not refuse the call
 pub record Checked (source image : List ℕ) (state : RenderState) (args : RenderArgs) (store marks : List ℕ) : Type 0 where
-  pub passes : early_refusal source image args state store marks ≡ none
+  pub passes : early_refusal source image args state store marks ≡ None
 
 -- nothing refuses the call before its run
 pub record Passing (source image : List ℕ) (state : RenderState) (args : RenderArgs) (store marks : List ℕ) : Type 0 where
-  pub passes : run_refusal source image args state store marks ≡ none
+  pub passes : run_refusal source image args state store marks ≡ None
 
 -- and its text has room
 pub record Fitting (source image : List ℕ) (state : RenderState) (args : RenderArgs) (store marks out : List ℕ) : Type 0 where

@@ -5,7 +5,7 @@ use crate::run::start_text;
 use crate::{RenderArgs, RenderState};
 use marks::keep::{put_aside, put_back};
 use renderer::machine::run_rows;
-use renderer::run::{Bounds, Run};
+use renderer::run::Bounds;
 use rows::units::Bytes;
 
 // How many bytes the rows give: a dry run. The marks of the rows' numbers are put aside in the rows, in a place that these don't use, and
@@ -15,30 +15,27 @@ pub(crate) fn bytes_needed(
     image: &[u8],
     store: &mut [u32],
     marks: &mut [u8],
-    out: &mut [u8],
     state: RenderState,
     args: RenderArgs,
 ) -> Bytes
     requires { Passing source.now image.now state args store.old marks.old }
-    ensures { Counted source.now image.now state args store.old marks.old out.old result store.new marks.new out.new }
+    ensures { Counted source.now image.now state args store.old marks.old result store.new marks.new }
 {
-    let from = state.row;
-    let stop = args.stop;
-    let width = args.width;
     let bounds = Bounds {
-        max: width,
-        limit: Bytes(0),
-        stop: stop,
+        max: args.width,
+        stop: args.stop,
     };
-    let w = start_text(state);
-    let start = Run {
-        depth: 0,
-        next: from,
-        writing: w,
-    };
-    put_aside(store, marks, state.in_use, from, stop);
-    let end = run_rows(start, store, source, image, marks, out, bounds);
-    put_back(store, marks, from, stop);
-    let bytes = end.at;
-    bytes
+    put_aside(store, marks, state.in_use, state.row, args.stop);
+    let end = run_rows(
+        start_text(state),
+        state.row,
+        store,
+        source,
+        image,
+        marks,
+        &mut [],
+        bounds,
+    );
+    put_back(store, marks, state.row, args.stop);
+    end.at
 }

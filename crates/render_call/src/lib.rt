@@ -8,17 +8,16 @@ mod room;
 mod run;
 pub mod width;
 
-ghost use Rattle.std.specs.Prelude.{◌≡◌};
-ghost use Rattle.render_call.specs.Calls.{rendering_of};
 ghost use Rattle.render_call.specs.Whole.{RenderCalled, Draws, Checked};
 
-use crate::refusal::{Verdict, refusal};
+use crate::refusal::refusal;
 use crate::room::rows_need;
 use crate::run::render_accepted;
+use refusals::{Reason, Refused};
 use rows::units::{Bytes, Columns};
 
 // `indent`, `next_indent`, `column`, marks in use, next row, width (0: none yet).
-#[derive(Clone, Copy)]
+#[derive(Clone, Copy, Debug, PartialEq, Eq)]
 pub struct RenderState {
     pub indent: usize,
     pub next_indent: usize,
@@ -29,37 +28,24 @@ pub struct RenderState {
 }
 
 // The row to stop before, and the width.
-#[derive(Clone, Copy)]
+#[derive(Clone, Copy, Debug, PartialEq, Eq)]
 pub struct RenderArgs {
     pub stop: usize,
     pub width: Columns,
 }
 
-#[derive(Clone, Copy)]
-pub enum Rendering {
-    // the new state, and the bytes written
-    Written(RenderState, Bytes),
-    // the number and the place
-    Refused(u8, usize),
+// What an accepted call gives: the new state, and the bytes written.
+#[derive(Clone, Copy, Debug, PartialEq, Eq)]
+pub struct Written {
+    pub state: RenderState,
+    pub bytes: Bytes,
 }
 
-// A rendering, with the greatest value that `column` was set to.
-#[derive(Clone, Copy)]
-pub enum Drawing {
-    // the new state, the bytes written, the greatest value
-    Drawn(RenderState, Bytes, Columns),
-    // the number and the place
-    Refused(u8, usize),
-}
-
-// The answer without the greatest value.
-fn rendering_of(d: Drawing) -> Rendering
-    ensures { result ≡ rendering_of d }
-{
-    match d {
-        Drawing::Drawn(state, bytes, widest) => Rendering::Written(state, bytes),
-        Drawing::Refused(number, place) => Rendering::Refused(number, place),
-    }
+// The same, with the greatest value that `column` was set to.
+#[derive(Clone, Copy, Debug, PartialEq, Eq)]
+pub struct Drawn {
+    pub written: Written,
+    pub widest: Columns,
 }
 
 // A rendering call that 1, 3, 11, 12 and 15 do not refuse.
@@ -71,14 +57,14 @@ pub fn render_checked(
     out: &mut [u8],
     state: RenderState,
     args: RenderArgs,
-) -> Drawing
+) -> Result<Drawn, Refused>
     requires { Checked source.now image.now state args store.old marks.old }
     ensures { Draws source.now image.now state args store.old marks.old out.old result store.new marks.new out.new }
 {
     let from = state.row;
     let n = rows_need(store, from, args.stop, state.indent + state.next_indent);
     if marks.len() < n.marks {
-        return Drawing::Refused(9, n.marks);
+        return Err(Reason::MarksNeeded.at(n.marks));
     }
     render_accepted(source, image, store, marks, out, state, args, n)
 }
@@ -92,14 +78,10 @@ pub fn render_call(
     out: &mut [u8],
     state: RenderState,
     args: RenderArgs,
-) -> Rendering
+) -> Result<Written, Refused>
     ensures { RenderCalled source.now image.now state args store.old marks.old out.old result store.new marks.new out.new }
 {
-    match refusal(source, image, store, marks, state, args) {
-        Verdict::Refused(number, place) => Rendering::Refused(number, place),
-        Verdict::Accepted => {
-            let d = render_checked(source, image, store, marks, out, state, args);
-            rendering_of(d)
-        }
-    }
+    refusal(source, image, store, marks, state, args)?;
+    let drawn = render_checked(source, image, store, marks, out, state, args)?;
+    Ok(drawn.written)
 }

@@ -1,18 +1,13 @@
 // Refusals 1, 3, 11, 12 and 15: what the tests before the rows are counted say of a call.
 ghost use Rattle.std.specs.Prelude.{◌≡◌};
-ghost use Rattle.render_call.specs.Calls.{verdict_refusal, early_refusal};
+ghost use Rattle.render_call.specs.Calls.{early_refusal};
+ghost use Rattle.refusals.specs.Reasons.{refusal_in};
 
 use crate::fits::state_refusal;
 use crate::{RenderArgs, RenderState};
 use image::{header_fits, source_fits};
-use rowcheck::{Found, check_rows};
-
-#[derive(Clone, Copy)]
-pub(crate) enum Verdict {
-    Accepted,
-    // the number and the place
-    Refused(u8, usize),
-}
+use refusals::{Reason, Refused};
+use rowcheck::check_rows;
 
 // Refusals 1, 3, 11, 12 and 15, the first that holds.
 pub(crate) fn refusal(
@@ -22,17 +17,15 @@ pub(crate) fn refusal(
     marks: &[u8],
     state: RenderState,
     args: RenderArgs,
-) -> Verdict
-    ensures { verdict_refusal result ≡ early_refusal source.now image.now args state store.now marks.now }
+) -> Result<(), Refused>
+    ensures { refusal_in result ≡ early_refusal source.now image.now args state store.now marks.now }
 {
     if !source_fits(source) {
-        return Verdict::Refused(1, 0);
+        return Err(Reason::SourceTooLong.at(0));
     }
     if !header_fits(image) {
-        return Verdict::Refused(3, 0);
+        return Err(Reason::Header.at(0));
     }
-    match check_rows(store, source, image, state.row, args.stop) {
-        Found::Wrong(row) => Verdict::Refused(11, row),
-        Found::Right => state_refusal(state, args, store, marks),
-    }
+    check_rows(store, source, image, state.row, args.stop)?;
+    state_refusal(state, args, store, marks)
 }

@@ -7,7 +7,7 @@ ghost use Rattle.rows.specs.View.{cell};
 ghost use Rattle.marks.specs.Marks.{marks_needed};
 ghost use Rattle.renderer_rules.specs.Most.{row_most, rows_most};
 
-use marks::count::{larger, row_marks};
+use marks::count::row_marks;
 use renderer::writing::margin_bytes;
 use rows::kinds::{
     ASCII, CALL, COMMENT, EMPTY_LINE, INDENT, INDENT_NEXT, LINE, LINE_OR_SPACE, STR,
@@ -22,16 +22,16 @@ fn row_most(store: &[u32], row: usize, margin: usize) -> Bytes
     ensures { (result.0 ≡ row_most margin store.now row (cell store.now row KIND)) × (result.0 ≤ ROW_GROWTH) }
 {
     match place(store, row, KIND) {
-        INDENT | INDENT_NEXT | CALL => Bytes(4 * (larger(place(store, row, AFTER), row) - row)),
-        COMMENT => Bytes(text_size(store, row).0 + (2 + margin_bytes(margin).0)),
+        INDENT | INDENT_NEXT | CALL => Bytes(4 * place(store, row, AFTER).saturating_sub(row)),
+        COMMENT => text_size(store, row) + Bytes(2) + margin_bytes(margin),
         STR | ASCII => text_size(store, row),
-        LINE | EMPTY_LINE | LINE_OR_SPACE => Bytes(2 + margin_bytes(margin).0),
+        LINE | EMPTY_LINE | LINE_OR_SPACE => Bytes(2) + margin_bytes(margin),
         _ => Bytes(0),
     }
 }
 
 // What rows need: marks, and bytes at most.
-#[derive(Clone, Copy)]
+#[derive(Clone, Copy, Debug, PartialEq, Eq)]
 pub struct Needs {
     pub marks: usize,
     pub bytes: Bytes,
@@ -42,16 +42,13 @@ pub(crate) fn rows_need(store: &[u32], from: usize, stop: usize, margin: usize) 
     requires { (from ≤ stop) × ((stop * PLACES ≤ length store.now) × ((stop ≤ MAX_ROWS) × (margin ≤ START_MARGIN))) }
     ensures { (result.marks ≡ marks_needed (stop - from) store.now from) × (result.bytes.0 ≡ 4 * margin + rows_most (stop - from) margin store.now from) }
 {
-    let mut most: usize = 0;
-    let mut sum = margin_bytes(margin).0;
-    let mut row = from;
-    while row < stop {
-        most = larger(most, row_marks(store, row));
-        sum += row_most(store, row, margin).0;
-        row += 1;
+    let mut needs = Needs {
+        marks: 0,
+        bytes: margin_bytes(margin),
+    };
+    for row in from..stop {
+        needs.marks = needs.marks.max(row_marks(store, row));
+        needs.bytes = needs.bytes + row_most(store, row, margin);
     }
-    Needs {
-        marks: most,
-        bytes: Bytes(sum),
-    }
+    needs
 }

@@ -5,26 +5,26 @@ ghost use Rattle.render_call.specs.Whole.{Draws, Passing, Fitting, Takes, most_o
 
 use crate::dry_run::bytes_needed;
 use crate::room::Needs;
-use crate::{Drawing, RenderArgs, RenderState};
-use marks::count::{clear_marks, larger};
+use crate::{Drawn, RenderArgs, RenderState, Written};
+use marks::count::clear_marks;
+use refusals::{Reason, Refused};
 use renderer::machine::run_rows;
-use renderer::run::{Bounds, Run};
+use renderer::run::Bounds;
 use renderer::writing::Writing;
 use renderer_rules::Pen;
 use rows::units::{Bytes, Columns};
 
 // A text with the state's pen, of which nothing is written yet.
+// kept: the state that C lends has the pen's numbers one by one.
 pub(crate) fn start_text(state: RenderState) -> Writing
     ensures { Takes state result }
 {
-    let column = state.column;
-    let pen = Pen {
-        indent: state.indent,
-        next_indent: state.next_indent,
-        column: column,
-    };
     Writing {
-        pen: pen,
+        pen: Pen {
+            indent: state.indent,
+            next_indent: state.next_indent,
+            column: state.column,
+        },
         at: Bytes(0),
         widest: Columns(0),
     }
@@ -40,37 +40,40 @@ fn write_rows(
     state: RenderState,
     args: RenderArgs,
     needed: usize,
-) -> Drawing
+) -> Result<Drawn, Refused>
     requires { Fitting source.now image.now state args store.now marks.old out.old × (needed ≡ marks_needed (args.stop - state.row) store.now state.row) }
     ensures { Draws source.now image.now state args store.now marks.old out.old result store.now marks.new out.new }
 {
-    let width = args.width;
     let bounds = Bounds {
-        max: width,
-        limit: Bytes(out.len()),
+        max: args.width,
         stop: args.stop,
     };
-    let w = start_text(state);
-    let start = Run {
-        depth: 0,
-        next: state.row,
-        writing: w,
-    };
     clear_marks(marks, state.in_use, needed);
-    let end = run_rows(start, store, source, image, marks, out, bounds);
-    let pen = end.pen;
-    let column = pen.column;
-    let bytes = end.at;
-    let widest = end.widest;
+    let end = run_rows(
+        start_text(state),
+        state.row,
+        store,
+        source,
+        image,
+        marks,
+        out,
+        bounds,
+    );
     let left = RenderState {
-        indent: pen.indent,
-        next_indent: pen.next_indent,
-        column: column,
-        in_use: larger(state.in_use, needed),
+        indent: end.pen.indent,
+        next_indent: end.pen.next_indent,
+        column: end.pen.column,
+        in_use: state.in_use.max(needed),
         row: args.stop,
-        width: width,
+        width: args.width,
     };
-    Drawing::Drawn(left, bytes, widest)
+    Ok(Drawn {
+        written: Written {
+            state: left,
+            bytes: end.at,
+        },
+        widest: end.widest,
+    })
 }
 
 // Counts the bytes first, and renders the rows or refuses with 10.
@@ -83,14 +86,13 @@ fn render_counted(
     state: RenderState,
     args: RenderArgs,
     needed: usize,
-) -> Drawing
+) -> Result<Drawn, Refused>
     requires { Passing source.now image.now state args store.old marks.old × (needed ≡ marks_needed (args.stop - state.row) store.old state.row) }
     ensures { Draws source.now image.now state args store.old marks.old out.old result store.new marks.new out.new }
 {
-    let bytes = bytes_needed(source, image, store, marks, out, state, args);
-    let size = bytes.0;
-    if out.len() < size {
-        return Drawing::Refused(10, size);
+    let size = bytes_needed(source, image, store, marks, state, args);
+    if out.len() < size.0 {
+        return Err(Reason::BytesNeeded.at(size.0));
     }
     write_rows(source, image, store, marks, out, state, args, needed)
 }
@@ -106,7 +108,7 @@ pub(crate) fn render_accepted(
     state: RenderState,
     args: RenderArgs,
     n: Needs,
-) -> Drawing
+) -> Result<Drawn, Refused>
     requires { Passing source.now image.now state args store.old marks.old × ((n.marks ≡ marks_needed (args.stop - state.row) store.old state.row) × (n.bytes.0 ≡ most_of state args store.old)) }
     ensures { Draws source.now image.now state args store.old marks.old out.old result store.new marks.new out.new }
 {

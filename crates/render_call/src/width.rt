@@ -14,14 +14,5 @@ const MAX_WIDTH: usize = 200;
 pub fn width_fits(width: Columns, carried: Columns) -> bool
     ensures { result ≡ not (any (width_tests width.0 carried.0)) }
 {
-    if width.0 < MIN_WIDTH {
-        return false;
-    }
-    if MAX_WIDTH < width.0 {
-        return false;
-    }
-    if carried.0 == 0 {
-        return true;
-    }
-    carried.0 == width.0
+    MIN_WIDTH <= width.0 && width.0 <= MAX_WIDTH && (carried.0 == 0 || carried.0 == width.0)
 }

@@ -1,13 +1,12 @@
 -- Whether a group wraps and which way a call goes, from what the code measured.
 -- Assumes nothing.
 use mathlib.Core.Path.{◌≡◌, refl, ap, sym, ◌∙◌}
-use Prim.Native.Nat.{ℕ, zero, suc, ◌+◌, ◌*◌, ◌-◌, ◌≤◌, ◌<◌, min}
+use Prim.Native.Nat.{ℕ, ◌+◌, ◌*◌, ◌≤◌, ◌<◌, min}
 use native.Mathlib.Omega.{arith}
 use mathlib.Core.Bool.{Bool, true, false, cond, not, ◌&&◌, ◌||◌}
-use mathlib.Core.List.{List, [], ◌∷◌}
-use lib.ListN.{length, set}
+use mathlib.Core.List.{List, []}
 use lib.Dec.{ltb}
-use borrow.Author.Tests.{lt-ltb, le-ltb, ltb-true, ltb-false, not-true}
+use borrow.Author.Tests.{le-ltb, ltb-true, ltb-false, not-true}
 use Rattle.laws.proofs.Booleans.{and_false, and_left, and_right, or_first}
 use Rattle.renderer.specs.Limits.{BEFORE_ROW, IN_ROW, MAX_MARGIN, MEASURED_LIMIT}
 use Rattle.rows.specs.View.{view_of, nodes_at}
@@ -16,17 +15,9 @@ use Rattle.rows.proofs.Nested.{nests_join, nests_le, nodes_join}
 use Rattle.rows.proofs.Widths.{widths_join}
 use Rattle.rows.specs.Node.{Nodes, widths, must_wraps, byte_columns}
 use Rattle.renderer_rules.specs.Page.{page_of}
-use Rattle.renderer_rules.specs.Renderer.{fresh_renderer, with_margin, virtual_column, wraps, group_wraps, trailing_call}
-use Rattle.renderer_rules.specs.Renderer.{callee_wraps, indent_more, indent_less, next_indent_more, next_indent_less}
+use Rattle.renderer_rules.specs.Renderer.{fresh_renderer, virtual_column, wraps, group_wraps, trailing_call}
+use Rattle.renderer_rules.specs.Renderer.{callee_wraps}
 use Rattle.renderer_rules.specs.declared.Pen.{Pen}
-
-pub virtual_on : (p : Pen) → 0 < p.column.0 → p.column.0 ≡ virtual_column p
-unfolding virtual_column
-virtual_on p h = sym (rw (lt-ltb 0 p.column.0 h))
-
-pub virtual_new : (p : Pen) → p.column.0 ≤ 0 → 4 * p.indent ≡ virtual_column p
-unfolding virtual_column
-virtual_new p h = sym (rw (le-ltb 0 p.column.0 h))
 
 -- the virtual column is small
 pub virtual_low : (p : Pen) → p.indent ≤ MAX_MARGIN → p.column.0 < BEFORE_ROW → virtual_column p < BEFORE_ROW
@@ -59,24 +50,6 @@ widths_both store m from mid to g h =
     ∙ widths_join (nodes_at (view_of store) from mid) (nodes_at (view_of store) mid to) byte_columns m
 
 module _ (max : ℕ) (p : Pen) (m : List ℕ) where
-  pub group_must : (ns : Nodes) → true ≡ must_wraps ns → true ≡ group_wraps (page_of max [] []) ns (fresh_renderer p m)
-  unfolding group_wraps wraps
-  group_must ns e = rw (← e)
-
-  pub group_fits : (ns : Nodes) (over : Bool) → false ≡ must_wraps ns → over ≡ ltb max (virtual_column p + widths byte_columns m ns)
-      → over ≡ group_wraps (page_of max [] []) ns (fresh_renderer p m)
-  unfolding group_wraps wraps
-  group_fits ns over e f = rw (← e, f)
-
-  -- nothing is measured past the line's end
-  pub past_end : (ns : Nodes) (start : ℕ) → max < start → start ≡ virtual_column p → true ≡ ltb max (virtual_column p + widths byte_columns m ns)
-  past_end ns start h e = sym (lt-ltb max (virtual_column p + widths byte_columns m ns) (omega arith))
-
-  pub in_room : (ns : Nodes) (start w : ℕ) → start ≤ max → start ≡ virtual_column p → w ≡ min (max - start + 1) (widths byte_columns m ns)
-      → ltb (max - start) w ≡ ltb max (virtual_column p + widths byte_columns m ns)
-  in_room ns start w h e f =
-      ltb_same (max - start) w max (virtual_column p + widths byte_columns m ns) (λ l. omega arith) (λ l. omega arith)
-
   -- which way a call goes; the callee and its arguments are as wide as both together
   module _ (e a : Nodes) (over : Bool) (o : over ≡ ltb max (virtual_column p + (widths byte_columns m e + widths byte_columns m a))) where
     both : ltb max (virtual_column p + widths byte_columns m e + widths byte_columns m a) ≡ over
@@ -127,57 +100,6 @@ module _ (max : ℕ) (p : Pen) (m : List ℕ) where
 pub made_up_once : (t over w : Bool) → w ≡ (not t && over) → w ≡ (not t && w)
 made_up_once true over w e = e
 made_up_once false over w e = refl
-
--- a mark past the end is none
-set_past : (m : List ℕ) (n x : ℕ) → length m ≤ n → set m n x ≡ m
-set_past [] n x h = refl
-set_past (a ∷ m) zero x h = absurd (omega arith)
-set_past (a ∷ m) (suc n) x h = ap (λ (l : List ℕ). a ∷ l) (set_past m n x (omega arith))
-
-pub insert_in : (m : List ℕ) (n : ℕ) (w : Bool) → w ≡ true → set m n 1 ≡ cond w (set m n 1) m
-insert_in m n w e = rw e
-
-pub insert_past : (m : List ℕ) (n : ℕ) (w : Bool) → w ≡ true → length m ≤ n → m ≡ cond w (set m n 1) m
-insert_past m n w e h = rw e (sym (set_past m n 1 h))
-
--- The margin, by what the code tests.
-pub indent_on : (p : Pen) (w : Bool) → w ≡ true → with_margin (p.indent + 1) p.next_indent p ≡ indent_more w p
-unfolding indent_more
-indent_on p w e = rw e
-
-pub indent_off : (p : Pen) (w : Bool) → w ≡ false → p ≡ indent_more w p
-unfolding indent_more
-indent_off p w e = rw e
-
-pub next_on : (p : Pen) (w : Bool) → w ≡ true → with_margin p.indent (p.next_indent + 1) p ≡ next_indent_more w p
-unfolding next_indent_more
-next_on p w e = rw e
-
-pub next_off : (p : Pen) (w : Bool) → w ≡ false → p ≡ next_indent_more w p
-unfolding next_indent_more
-next_off p w e = rw e
-
-pub out_on : (p : Pen) (w : Bool) → w ≡ true → with_margin (p.indent - 1) p.next_indent p ≡ indent_less w p
-unfolding indent_less
-out_on p w e = rw e
-
-pub out_off : (p : Pen) (w : Bool) → w ≡ false → p ≡ indent_less w p
-unfolding indent_less
-out_off p w e = rw e
-
-pub back_next : (p : Pen) (w : Bool) → w ≡ true → 0 < p.next_indent
-    → with_margin p.indent (p.next_indent - 1) p ≡ next_indent_less w p
-unfolding next_indent_less
-back_next p w e h = rw (e, lt-ltb 0 p.next_indent h)
-
-pub back_indent : (p : Pen) (w : Bool) → w ≡ true → p.next_indent ≤ 0
-    → with_margin (p.indent - 1) p.next_indent p ≡ next_indent_less w p
-unfolding next_indent_less indent_less
-back_indent p w e h = rw (e, le-ltb 0 p.next_indent h)
-
-pub back_off : (p : Pen) (w : Bool) → w ≡ false → p ≡ next_indent_less w p
-unfolding next_indent_less
-back_off p w e = rw e
 
 -- sums of columns and widths fit
 pub sum_fits : (a b : ℕ) → a < IN_ROW → b < IN_ROW → a + b < 18446744073709551616

@@ -24,7 +24,7 @@ use Rattle.renderer_rules.specs.declared.Pen.{Pen}
 use Rattle.renderer.specs.declared.writing.Writing.{Writing}
 use Rattle.renderer.specs.Output.{written_over}
 use Rattle.renderer.specs.Writing.{set_pen, writing_after, Writes}
-use Rattle.renderer.specs.Run.{Running, with_frames, bare_run, state_of, machine_of, Wrote, Shows, Follows, opened_run}
+use Rattle.renderer.specs.Run.{Running, state_of, machine_of, Wrote, Shows, Follows, opened_run}
 use Rattle.renderer.specs.Run.{passed_run, closed_at, inserted, GroupOpened, CallOpened, ArgumentsOpened}
 use Rattle.renderer.proofs.Written.{over_join}
 use Rattle.renderer.proofs.Framed.{under, fresh_under, leaf_under}
@@ -299,7 +299,7 @@ module _ (store source image : List ℕ) (max limit : ℕ) (marks out : List ℕ
     -- the row is closed, its last step being s
     off_goes : (s : Pen → Pen) (q : Running) → (eqb (v.kind f.row) CALL && f.first) ≡ false
         → ((t : Renderer) → closing v pg f t ≡ on_pen s t)
-        → q ≡ with_frames r.frames (closed_at (bare_run r) (v.after f.row) (s r.writing.pen))
+        → q ≡ closed_at r (v.after f.row) (s r.writing.pen)
         → (o b : List ℕ) (n : ℕ) → Wrote limit o out r.writing.at.0 b
         → Shows limit o marks out q (leave v pg (machine_of r marks b n) (r.depth - 1))
     unfolding leave machine_of
@@ -307,6 +307,6 @@ module _ (store source image : List ℕ) (max limit : ℕ) (marks out : List ℕ
 
     pub closed_follows : (s : Pen → Pen) (q : Running) → (eqb (v.kind f.row) CALL && f.first) ≡ false
         → ((t : Renderer) → closing v pg f t ≡ on_pen s t)
-        → q ≡ with_frames r.frames (closed_at (bare_run r) (v.after f.row) (s r.writing.pen))
+        → q ≡ closed_at r (v.after f.row) (s r.writing.pen)
         → Follows limit (turn v pg) marks out r marks out q
     closed_follows s q e c g = record { goes = λ o b n w. shows_as limit o marks out q _ _ (turned b n) (off_goes s q e c g o b n w) }

@@ -1,6 +1,6 @@
 -- A row without parts, by its kind: what `render_node` does there, from the row's places.
 -- Assumes nothing.
-use mathlib.Core.Path.{◌≡◌, refl, sym, ◌∙◌}
+use mathlib.Core.Path.{◌≡◌, refl, sym, ap, ap₂, ◌∙◌}
 use Prim.Native.Nat.{ℕ, ◌≤◌}
 use native.Mathlib.Omega.{arith}
 use mathlib.Core.Bool.{Bool, true, false, cond}
@@ -9,12 +9,13 @@ use lib.Dec.{eqb}
 use borrow.Author.Tests.{eqb-true, eqb-false}
 use Rattle.rows.specs.Kinds.{WRAP_PARENT, COMMENT, STR, ASCII, LINE, EMPTY_LINE, LINE_OR_SPACE}
 use Rattle.rows.specs.Places.{KIND, ORIGIN, START, SIZE, WIDTH}
-use Rattle.rows.specs.View.{view_of, cell, node_at}
+use Rattle.rows.specs.View.{view_of, cell, node_at, own_width}
 use Rattle.rows.proofs.Decode.{node_parent, node_comment, node_str, node_ascii, node_line, node_empty, node_space}
 use Rattle.renderer_rules.specs.Page.{page_of, text_bytes, text_of}
 use Rattle.renderer_rules.specs.Renderer.{Renderer, fresh_renderer, render_node, push_str, new_line, comment, text}
 use Rattle.renderer.specs.declared.writing.Writing.{Writing}
 use Rattle.renderer.specs.Writing.{Writes}
+use Rattle.renderer.specs.Output.{row_bytes}
 
 pub writes_as : (limit : ℕ) (s t : Renderer) (out : List ℕ) (p : Writing) (out2 : List ℕ) (q : Writing)
     → t ≡ s → Writes limit s out p out2 q → Writes limit t out p out2 q
@@ -58,28 +59,32 @@ module _ (max : ℕ) (source image store : List ℕ) (row kind : ℕ) (w : Bool)
   unfolding render_node view_of
   render_space k = rw (node_space (view_of store) row (sym e ∙ k))
 
--- a `Comment`, and a `Str` or an `Ascii`, from the places that the code read
+-- a `Comment`, and a `Str` or an `Ascii`, whose text is t
 module _ (max limit : ℕ) (source image store : List ℕ) (row kind : ℕ) (w : Bool)
-    (out : List ℕ) (p : Writing) (out2 : List ℕ) (q : Writing) (origin start size : ℕ)
-    (e : kind ≡ cell store row KIND)
-    (a : origin ≡ cell store row ORIGIN)
-    (b : start ≡ cell store row START)
-    (c : size ≡ cell store row SIZE)
-  where
-    pub comment_leaf : kind ≡ COMMENT → Writes limit (comment (text_bytes source image (text_of origin start size)) (fresh_renderer p.pen [])) out p out2 q
-        → Writes limit (render_node (page_of max source image) (node_at (view_of store) row) w (fresh_renderer p.pen [])) out p out2 q
-    comment_leaf k d = writes_as limit _ _ out p out2 q (render_comment max source image store row kind w (fresh_renderer p.pen []) e k ∙ rw (a, b, c)) d
+    (out : List ℕ) (p : Writing) (out2 : List ℕ) (q : Writing) (e : kind ≡ cell store row KIND) (t : List ℕ) (f : t ≡ row_bytes source image store row) where
+  pub comment_leaf : kind ≡ COMMENT → Writes limit (comment t (fresh_renderer p.pen [])) out p out2 q
+      → Writes limit (render_node (page_of max source image) (node_at (view_of store) row) w (fresh_renderer p.pen [])) out p out2 q
+  comment_leaf k d =
+      writes_as limit _ _ out p out2 q
+      (render_comment max source image store row kind w (fresh_renderer p.pen []) e k
+      ∙ ap (λ (b : List ℕ). comment b (fresh_renderer p.pen [])) (sym f)) d
 
-    pub text_leaf : (x : ℕ) → x ≡ cond (eqb kind STR) (cell store row WIDTH) size → (kind ≡ COMMENT → ⊥) → COMMENT ≤ kind → kind ≤ ASCII
-        → Writes limit (text (text_bytes source image (text_of origin start size)) x (fresh_renderer p.pen [])) out p out2 q
-        → Writes limit (render_node (page_of max source image) (node_at (view_of store) row) w (fresh_renderer p.pen [])) out p out2 q
-    text_leaf x h other low high d = go (eqb kind STR) refl h
-      where
-        go : (t : Bool) → eqb kind STR ≡ t → x ≡ cond t (cell store row WIDTH) size
-            → Writes limit (render_node (page_of max source image) (node_at (view_of store) row) w (fresh_renderer p.pen [])) out p out2 q
-        go true k h =
-            writes_as limit _ _ out p out2 q
-            (render_str max source image store row kind w (fresh_renderer p.pen []) e (eqb-true kind STR k) ∙ rw (a, b, c, h)) d
-        go false k h =
-            let n = eqb-false kind STR k in
-            writes_as limit _ _ out p out2 q (render_ascii max source image store row kind w (fresh_renderer p.pen []) e (omega arith) ∙ rw (h, a, b, c)) d
+  pub text_leaf : (x : ℕ) → x ≡ own_width store row kind → (kind ≡ COMMENT → ⊥) → COMMENT ≤ kind → kind ≤ ASCII
+      → Writes limit (text t x (fresh_renderer p.pen [])) out p out2 q
+      → Writes limit (render_node (page_of max source image) (node_at (view_of store) row) w (fresh_renderer p.pen [])) out p out2 q
+  text_leaf x h other low high d = go (eqb kind STR) refl
+    where
+      same : (n : ℕ) → own_width store row kind ≡ n → text (row_bytes source image store row) n (fresh_renderer p.pen []) ≡ text t x (fresh_renderer p.pen [])
+      same n i = ap₂ (λ (b : List ℕ) (m : ℕ). text b m (fresh_renderer p.pen [])) (sym f) (sym (h ∙ i))
+
+      go : (b : Bool) → eqb kind STR ≡ b
+          → Writes limit (render_node (page_of max source image) (node_at (view_of store) row) w (fresh_renderer p.pen [])) out p out2 q
+      go true k =
+          let i = eqb-true kind STR k in
+          writes_as limit _ _ out p out2 q
+          (render_str max source image store row kind w (fresh_renderer p.pen []) e i ∙ same (cell store row WIDTH) (rw i)) d
+      go false k =
+          let n = eqb-false kind STR k in
+          let i : kind ≡ ASCII = omega arith in
+          writes_as limit _ _ out p out2 q
+          (render_ascii max source image store row kind w (fresh_renderer p.pen []) e i ∙ same (cell store row SIZE) (rw i)) d

@@ -5,7 +5,6 @@ pub mod Framed
 pub mod Leaves
 pub mod Opening
 pub mod Outcome
-pub mod Packed
 pub mod Running
 pub mod Stepped
 pub mod Sums

@@ -9,10 +9,6 @@ use lib.ListN.{length, set, take, drop, length-set, take-append-drop}
 use lib.Seq.{take-suc-set, drop-set-lt}
 use borrow.Author.Tests.{lt-ltb}
 use Rattle.renderer.specs.Output.{written_over}
-use Rattle.renderer.proofs.Written.{over_past}
-
-pub over_dry : (out : List ℕ) (at : ℕ) (t : List ℕ) → written_over 0 out at t ≡ out
-over_dry out at t = over_past 0 out at t (omega arith)
 
 stepped : (out : List ℕ) (at b : ℕ) (t : List ℕ) → at < length out
     → take (at + 1) (set out at b) ++ (t ++ drop (at + 1 + length t) (set out at b)) ≡ take at out ++ (b ∷ (t ++ drop (at + suc (length t)) out))

@@ -14,7 +14,7 @@ use Rattle.rows.specs.Kinds.{STR}
 use Rattle.rows.specs.Places.{KIND, ORIGIN, START, SIZE, WIDTH, PLACES}
 use Rattle.rows.specs.View.{View, view_of, cell, nodes_at}
 use Rattle.rows.proofs.Nested.{nests_le}
-use Rattle.renderer_rules.specs.declared.Frame.{Frame}
+use Rattle.renderer.specs.declared.frames.Frames.{Frames}
 use Rattle.renderer_rules.specs.Page.{page_of}
 use Rattle.renderer_rules.specs.Renderer.{Page, Renderer, fresh_renderer, render_nodes}
 use Rattle.renderer_rules.specs.Frames.{part_limit, wrap_at, Under}
@@ -24,7 +24,7 @@ use Rattle.renderer_rules.specs.Machine.{Machine, turn}
 use Rattle.renderer_rules.proofs.Machine.{Fine, left, weight, means, is_done, turned, done_means}
 use Rattle.renderer_rules.specs.Safe.{Safe, SmallTexts, steps, ins}
 use Rattle.renderer_rules.proofs.Safe.{turn_safe}
-use Rattle.renderer.specs.declared.run.Run.{Run}
+use Rattle.renderer.specs.declared.writing.Writing.{Writing}
 use Rattle.renderer.specs.Output.{written_over}
 use Rattle.renderer.specs.Run.{Running, with_frames, machine_of, Wrote, Shows, Follows, Ready, Starting, Ended}
 use Rattle.renderer.proofs.Written.{over_length, text_fits}
@@ -64,20 +64,20 @@ module _ (store source image : List ℕ) (max limit stop : ℕ) where
     pub safe : Safe v base (machine_of r marks text entered)
     pub mean : means v pg stop (machine_of r marks text entered) ≡ final
 
-  -- what the rows from the next row of r up to the stop make of its pen and these marks
-  abbrev pub due : List ℕ → Run → Renderer
-  due marks r = render_nodes pg (nodes_at v r.next stop) true (fresh_renderer r.writing.pen marks)
+  -- what the rows from a row up to the stop make of a pen and these marks
+  abbrev pub due : List ℕ → ℕ → Writing → Renderer
+  due marks from p = render_nodes pg (nodes_at v from stop) true (fresh_renderer p.pen marks)
 
-  going_top : (out marks : List ℕ) (r : Run) (fs : List Frame) → length fs ≡ MAX_DEPTH → SmallTexts v pg → Starting store limit stop out r
-      → Going (due marks r) out marks out (with_frames fs (record { depth = 0; next = r.next; writing = r.writing }))
+  pub going_start : (out marks : List ℕ) (from : ℕ) (p : Writing) (fs : Frames) → fs.depth ≡ 0 → length fs.items ≡ MAX_DEPTH → limit ≤ length out → SmallTexts v pg
+      → Starting store from stop p
+      → Going (due marks from p) out marks out (with_frames fs (record { next = from; writing = p }))
   unfolding machine_of meaning rest part_limit wrap_at Under steps ins written_over
-  going_top out marks r fs e s g =
+  going_start out marks from p fs z e l s g =
       let c = g.column in
-      let p = r.writing in
-      record {
+      rw z (record {
         room = g.nested.room;
         few = g.nested.few;
-        fits = g.fits;
+        fits = l;
         small = s;
         base = p.pen.indent + p.pen.next_indent;
         low = g.margin;
@@ -87,16 +87,10 @@ module _ (store source image : List ℕ) (max limit stop : ℕ) where
         fine = record { good = g.nested.nests; under = tt; low = omega arith; size = e; deep = omega arith };
         safe = record { sum = plus_none (p.pen.indent + p.pen.next_indent); low = omega arith; column = omega arith; bytes = omega arith };
         mean = rw g.widest refl;
-      }
+      })
     where
       plus_none : (n : ℕ) → n ≡ n + 0
       plus_none n = omega arith
-
-  pub going_start : (out marks : List ℕ) (r : Run) (fs : List Frame) → length fs ≡ MAX_DEPTH → SmallTexts v pg → Starting store limit stop out r
-      → Going (due marks r) out marks out (with_frames fs r)
-  going_start out marks r fs e s g =
-      subst (λ (d : ℕ). Going (due marks r) out marks out (with_frames fs (record { depth = d; next = r.next; writing = r.writing }))) (sym g.none_open)
-      (going_top out marks r fs e s g)
 
   module _ (final : Renderer) (out0 marks out : List ℕ) (r : Running) (g : Going final out0 marks out r) where
     pub same_size : length out ≡ length out0

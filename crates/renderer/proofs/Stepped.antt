@@ -5,7 +5,7 @@ use Prim.Native.Nat.{ℕ, zero, suc, ◌+◌, ◌*◌, ◌-◌, ◌≤◌, ◌<�
 use native.Mathlib.Omega.{arith}
 use native.Mathlib.Numerals.{add-one}
 use mathlib.Core.Bool.{Bool, true, false, cond, ◌&&◌, ◌||◌}
-use mathlib.Core.List.{List, []}
+use mathlib.Core.List.{List}
 use lib.ListN.{length}
 use lib.Dec.{ltb, eqb}
 use borrow.Author.Tests.{ne_eqb, eqb-true, eqb-false, lt-ltb, le-ltb, ltb-true, ltb-false}
@@ -20,95 +20,27 @@ use Rattle.renderer_rules.specs.declared.Frame.{Frame}
 use Rattle.renderer_rules.specs.Page.{page_of}
 use Rattle.renderer_rules.specs.Renderer.{Page, Renderer, on_pen, indent_more, indent_less, next_indent_more, next_indent_less}
 use Rattle.renderer_rules.specs.Frames.{frame_at, part_end, part_limit, wrap_at, Open}
-use Rattle.renderer_rules.specs.Machine.{Machine, closing, frame_of, enter, turn}
+use Rattle.renderer_rules.specs.Machine.{closing, frame_of, enter, turn}
 use Rattle.renderer_rules.proofs.Opened.{at_top, limit_zero, limit_pos, wrap_at_zero, wrap_at_pos}
-use Rattle.laws.proofs.Booleans.{both}
 use Rattle.renderer_rules.proofs.Machine.{turn_enter}
 use Rattle.renderer_rules.specs.Safe.{steps, ins, steps_back, ins_of}
 use Rattle.renderer_rules.proofs.Safe.{steps_le, closing_plain, closing_indent, closing_next, closing_call, indent_steps, next_steps, call_steps}
 use Rattle.renderer_rules.specs.declared.Pen.{Pen}
-use Rattle.renderer.specs.declared.writing.Writing.{Writing}
 use Rattle.renderer.specs.Writing.{set_pen, WritingRoom}
-use Rattle.renderer.specs.declared.run.Run.{Run}
-use Rattle.renderer.specs.Run.{Running, with_frames, whole_run, bare_run, passed_run, machine_of, Follows, Ready, Enters}
-use Rattle.renderer.specs.Run.{Entering, Leaves, Backs, Left, goes_on, ends, opened_run, closed_at, closed_run, closes}
+use Rattle.renderer.specs.Run.{Running, machine_of, Follows, Ready, Enters}
+use Rattle.renderer.specs.Run.{Entering, Leaves, Backs, Left, goes_on, ends, opened_run, closes}
 use Rattle.renderer.proofs.Followed.{shows_as, indent_follows, next_follows, arguments_follows, closed_follows}
 
--- `close`, by what it tests
-module _ (kind : ℕ) (f : Frame) (p q : Pen) where
-  pub closes_indent : kind ≡ INDENT → q ≡ indent_less f.wrap p → q ≡ closes kind f p
-  closes_indent k e = e ∙ rw k
+-- the open part is not done: no row is open, or another is next
+pub undone_none : (d : ℕ) (b : Bool) → d ≤ 0 → (ltb 0 d && b) ≡ false
+undone_none d b h = rw (le-ltb 0 d h)
 
-  pub closes_next : kind ≡ INDENT_NEXT → q ≡ next_indent_less f.wrap p → q ≡ closes kind f p
-  closes_next k e = e ∙ rw k
-
-  pub closes_call : kind ≡ CALL → q ≡ next_indent_less f.deeper p → q ≡ closes kind f p
-  closes_call k e = e ∙ rw k
-
-pub closes_none : (kind : ℕ) (f : Frame) (p : Pen) → (kind ≡ INDENT → ⊥) → (kind ≡ INDENT_NEXT → ⊥) → (kind ≡ CALL → ⊥) → p ≡ closes kind f p
-closes_none kind f p a b c = rw (ne_eqb kind 1 a, ne_eqb kind 2 b, ne_eqb kind 11 c)
-
-pub finished : (store : List ℕ) (r : Run) (f : Frame) (row kind next : ℕ) (p : Pen) (q : Run)
-    → row ≡ f.row → kind ≡ cell store row KIND → next ≡ cell store row AFTER
-    → p ≡ closes kind f r.writing.pen
-    → q ≡ closed_at r next p
-    → q ≡ closed_run store r f
-finished store r f row kind next p q e k n a b = b ∙ rw (a, n, k, e)
-
-pub backs_at : (store : List ℕ) (r : Run) (f : Frame) (row kind : ℕ) → row ≡ f.row
-    → kind ≡ cell store row KIND → Leaves store r f → Backs kind f r.writing.pen
-backs_at store r f row kind e k l = rw (k, e) l.backs
-
-pub kind_at : (store : List ℕ) (f : Frame) (row kind : ℕ) → row ≡ f.row → kind ≡ cell store row KIND → cell store f.row KIND ≡ kind
-kind_at store f row kind e k = sym (k ∙ ap (λ (x : ℕ). cell store x KIND) e)
-
-pub part_first : (store : List ℕ) (f : Frame) (row e : ℕ) → row ≡ f.row → f.first ≡ true → e ≡ cell store row SECOND → e ≡ part_end (view_of store) f
-unfolding part_end view_of
-part_first store f row e i y h = h ∙ rw (y, i)
-
-pub part_last : (store : List ℕ) (f : Frame) (row e : ℕ) → row ≡ f.row → f.first ≡ false → e ≡ cell store row AFTER → e ≡ part_end (view_of store) f
-unfolding part_end view_of
-part_last store f row e i y h = h ∙ rw (y, i)
-
--- what is read of the innermost row, by whether there is one
-pub some_open : (d : ℕ) (f g h : Frame) → 0 < d → f ≡ g → f ≡ cond (ltb 0 d) g h
-some_open d f g h p e = e ∙ sym (rw (lt-ltb 0 d p))
-
-pub none_open : (d : ℕ) (g h : Frame) → d ≤ 0 → h ≡ cond (ltb 0 d) g h
-none_open d g h p = sym (rw (le-ltb 0 d p))
-
-pub some_part : (d n e e2 : ℕ) → 0 < d → e ≡ e2 → eqb n e ≡ (ltb 0 d && eqb n e2)
-some_part d n e e2 p h = ap (eqb n) h ∙ sym (rw (lt-ltb 0 d p))
-
-pub none_part : (d : ℕ) (b : Bool) → d ≤ 0 → false ≡ (ltb 0 d && b)
-none_part d b p = sym (rw (le-ltb 0 d p))
-
-pub indent_kind : (kind : ℕ) (r : Running) (w : Bool) (q : Running) (p : Pen) (x : Writing) → kind ≡ INDENT → p ≡ indent_more w r.writing.pen
-    → x ≡ set_pen p r.writing
-    → q ≡ opened_run r (frame_of r.next w false false) (r.next + 1) x
-    → q
-    ≡ opened_run r (frame_of r.next w false false) (r.next + 1)
-    (set_pen (cond (eqb kind 1) (indent_more w r.writing.pen) (next_indent_more w r.writing.pen)) r.writing)
-indent_kind kind r w q p x k e s o = o ∙ rw (s, e, k)
-
-pub next_kind : (kind : ℕ) (r : Running) (w : Bool) (q : Running) (p : Pen) (x : Writing) → (kind ≡ INDENT → ⊥) → p ≡ next_indent_more w r.writing.pen
-    → x ≡ set_pen p r.writing
-    → q ≡ opened_run r (frame_of r.next w false false) (r.next + 1) x
-    → q
-    ≡ opened_run r (frame_of r.next w false false) (r.next + 1)
-    (set_pen (cond (eqb kind 1) (indent_more w r.writing.pen) (next_indent_more w r.writing.pen)) r.writing)
-next_kind kind r w q p x k e s o = o ∙ rw (s, e, ne_eqb kind 1 k)
-
--- the run that the code goes on with, once a row without parts is passed
-pub passed_follows : (limit : ℕ) (f : Machine → Machine) (marks out : List ℕ) (r : Running) (marks2 out2 ns : List ℕ) (s q : Run) (w : Writing)
-    → q ≡ bare_run (passed_run (with_frames [] s) w)
-    → Follows limit f marks out r marks2 out2 (passed_run (whole_run ns s) w)
-    → Follows limit f marks out r marks2 out2 (whole_run ns q)
-passed_follows limit f marks out r marks2 out2 ns s q w e g = subst (λ (x : Run). Follows limit f marks out r marks2 out2 (whole_run ns x)) (sym e) g
-
--- which kinds have parts
-pub parts_low : (k : ℕ) → k < 3 → true ≡ (ltb k 3 || ltb 9 k)
-parts_low k h = sym (rw (lt-ltb k 3 h))
+pub undone_other : (d n e e2 : ℕ) → e ≡ e2 → (n ≡ e → ⊥) → (ltb 0 d && eqb n e2) ≡ false
+undone_other d n e e2 i k = go (ltb 0 d) (ne_eqb n e2 (λ z. k (z ∙ sym i)))
+  where
+    go : (b : Bool) → eqb n e2 ≡ false → (b && eqb n e2) ≡ false
+    go true h = h
+    go false h = refl
 
 pub parts_high : (k : ℕ) → 3 ≤ k → ltb 9 k ≡ (ltb k 3 || ltb 9 k)
 parts_high k h = sym (rw (le-ltb k 3 h))
@@ -192,7 +124,7 @@ module _ (store source image : List ℕ) (max limit stop : ℕ) (marks out : Lis
     row_in : r.next < stop
     row_in = let a = n.inside in let b = n.ready.at.low in omega arith
 
-    pub enters : Enters store (bare_run r)
+    pub enters : Enters store r
     enters =
         let a = row_in in
         let b = n.ready.room in
@@ -300,7 +232,7 @@ module _ (store source image : List ℕ) (max limit stop : ℕ) (marks out : Lis
             call = λ k w. let a = (call_steps v f true k w).0 in let b = x.1 in omega arith;
           }
 
-      pub leaves : r.next ≡ part_end v f → Leaves store (bare_run r) f
+      pub leaves : r.next ≡ part_end v f → Leaves store r f
       unfolding view_of
       leaves z =
           record {
@@ -362,9 +294,6 @@ module _ (store source image : List ℕ) (max limit stop : ℕ) (marks out : Lis
     where
       pub innermost_is : 0 < r.depth → f ≡ frame_at r.frames (r.depth - 1)
       innermost_is h = i ∙ rw (lt-ltb 0 r.depth h)
-
-      pub turn_leaves : (ltb 0 r.depth && eqb r.next (part_end v f)) ≡ true → (0 < r.depth) × (r.next ≡ part_end v f)
-      turn_leaves e = let b = both _ _ e in (ltb-true _ _ b.0, eqb-true _ _ b.1)
 
       pub turn_enters : (ltb 0 r.depth && eqb r.next (part_end v f)) ≡ false
           → Entering store source image max limit stop marks out r × (f.wrap ≡ wrap_at r.frames r.depth)

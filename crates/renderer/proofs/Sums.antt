@@ -2,13 +2,15 @@
 -- the first parts of `IfWrap` rows open.
 -- Assumes nothing.
 use mathlib.Core.Path.{◌≡◌, refl, sym, ap, ◌∙◌, subst}
-use Prim.Native.Nat.{ℕ, zero, suc, ◌+◌, ◌*◌, ◌-◌, ◌≤◌, ◌<◌, min}
+use Prim.Native.Nat.{ℕ, suc, ◌+◌, ◌*◌, ◌-◌, ◌≤◌, ◌<◌, min}
 use native.Mathlib.Omega.{arith}
 use native.Mathlib.Numerals.{add-one}
 use mathlib.Core.Bool.{true, false}
-use mathlib.Core.List.{List}
-use lib.ListN.{length, get_or, set, length-set}
-use lib.Seq.{get_or-set_same, get_or-set_other}
+use mathlib.Core.List.{List, [], ◌∷◌}
+use lib.ListN.{length}
+use borrow.Author.Rules.{rules}
+use Rattle.std.specs.Prelude.{Option, Some, None, IsSome}
+use Rattle.rows.specs.Stack.{Popped}
 use Rattle.rows.specs.Limits.{CELL_LIMIT, MAX_DEPTH, MAX_ROWS}
 use Rattle.rows.specs.Kinds.{IF_WRAP}
 use Rattle.rows.specs.Places.{KIND, NUMBER, SECOND, AFTER}
@@ -115,54 +117,38 @@ measured s m from to room w n q =
     let b = n.few in
     omega arith
 
--- `ends` has where the p parts end that enclose the one that the sum is in, outermost first. That one ends at `end`, and there the part
+-- `ends` has where the parts end that enclose the one that the sum is in, the innermost first. That one ends at `end`, and there the part
 -- stands that is not chosen.
-unfoldable pub rest : List ℕ → List ℕ → List ℕ → ℕ → ℕ → ℕ
-rest s m ends zero end = 0
-rest s m ends (suc p) end = W s m ((view_of s).after end) (get_or ends p 0) + rest s m ends p (get_or ends p 0)
+unfoldable pub rest : List ℕ → List ℕ → List ℕ → ℕ → ℕ
+rest s m [] end = 0
+rest s m (x ∷ xs) end = W s m ((view_of s).after end) x + rest s m xs x
 
-unfoldable pub Fine : List ℕ → ℕ → List ℕ → ℕ → ℕ → Type 0
-Fine s to ends zero end = end ≡ to
-Fine s to ends (suc p) end = (end < (view_of s).after end) × Nests (view_of s) ((view_of s).after end) (get_or ends p 0) p × Fine s to ends p (get_or ends p 0)
+unfoldable pub Fine : List ℕ → ℕ → List ℕ → ℕ → Type 0
+Fine s to [] end = end ≡ to
+Fine s to (x ∷ xs) end = (end < (view_of s).after end) × Nests (view_of s) ((view_of s).after end) x (length xs) × Fine s to xs x
 
-fine_low : (s : List ℕ) (to : ℕ) (ends : List ℕ) (p end : ℕ) → Fine s to ends p end → end + p ≤ to
+fine_low : (s : List ℕ) (to : ℕ) (ends : List ℕ) (end : ℕ) → Fine s to ends end → end + length ends ≤ to
 unfolding Fine
-fine_low s to ends zero end f = omega arith
-fine_low s to ends (suc p) end f =
+fine_low s to [] end f = omega arith
+fine_low s to (x ∷ xs) end f =
     let a = nests_le f.1 in
-    let b = fine_low s to ends p (get_or ends p 0) f.2 in
+    let b = fine_low s to xs x f.2 in
     omega arith
 
-other : (ends : List ℕ) (k q x : ℕ) → q < k → get_or (set ends k x) q 0 ≡ get_or ends q 0
-other ends k q x h = get_or-set_other ends k q x 0 (λ e. omega arith)
-
-rest_set : (s m ends : List ℕ) (k p x end : ℕ) → p ≤ k → rest s m (set ends k x) p end ≡ rest s m ends p end
-unfolding rest
-rest_set s m ends k zero x end h = refl
-rest_set s m ends k (suc p) x end h = rw (other ends k p x h, rest_set s m ends k p x (get_or ends p 0) (omega arith))
-
-fine_set : (s : List ℕ) (to : ℕ) (ends : List ℕ) (k p x end : ℕ) → p ≤ k → Fine s to ends p end → Fine s to (set ends k x) p end
-unfolding Fine
-fine_set s to ends k zero x end h f = f
-fine_set s to ends k (suc p) x end h f =
-    (f.0, rw (other ends k p x h) f.1, rw (other ends k p x h) (fine_set s to ends k p x (get_or ends p 0) (omega arith) f.2))
-
 -- The sum is at `row`, in a part that ends at `end`: what is ahead there and in the parts around it makes the width of the whole range.
-pub record Open (s m : List ℕ) (from to : ℕ) (ends : List ℕ) (p row end sum : ℕ) : Type 0 where
-  pub width : sum + W s m row end + rest s m ends p end ≡ W s m from to
-  pub nests : Nests (view_of s) row end p
-  pub fine : Fine s to ends p end
-  pub deep : p ≤ MAX_DEPTH
-  pub size : length ends ≡ MAX_DEPTH
+pub record Open (s m : List ℕ) (from to : ℕ) (ends : List ℕ) (row end sum : ℕ) : Type 0 where
+  pub width : sum + W s m row end + rest s m ends end ≡ W s m from to
+  pub nests : Nests (view_of s) row end (length ends)
+  pub fine : Fine s to ends end
   pub cap : sum + from * CELL_LIMIT ≤ row * CELL_LIMIT
 
-pub opened : (s m : List ℕ) (from to : ℕ) (ends : List ℕ) → Nested s from to → length ends ≡ MAX_DEPTH → Open s m from to ends 0 from to 0
+pub opened : (s m : List ℕ) (from to : ℕ) (ends : List ℕ) → Nested s from to → ends ≡ [] → Open s m from to ends from to 0
 unfolding rest Fine
-opened s m from to ends n e = record { width = omega arith; nests = n.nests; fine = refl; deep = omega arith; size = e; cap = omega arith }
+opened s m from to ends n e = rw e (record { width = omega arith; nests = n.nests; fine = refl; cap = omega arith })
 
-module _ (s m : List ℕ) (from to : ℕ) (ends : List ℕ) (p row end sum : ℕ) (t : Open s m from to ends p row end sum) where
-  pub low : end + p ≤ to
-  low = fine_low s to ends p end t.fine
+module _ (s m : List ℕ) (from to : ℕ) (ends : List ℕ) (row end sum : ℕ) (t : Open s m from to ends row end sum) where
+  pub low : end + length ends ≤ to
+  low = fine_low s to ends end t.fine
 
   pub reached : row ≤ end
   reached = nests_le t.nests
@@ -173,17 +159,17 @@ module _ (s m : List ℕ) (from to : ℕ) (ends : List ℕ) (p row end sum : ℕ
   -- nothing is ahead
   pub all : (room : ℕ) → sum ≤ room → to ≤ row → Measures s m from to room sum
   unfolding rest
-  all room l h = go p refl
+  all room l h = go ends refl
     where
-      go : (q : ℕ) → p ≡ q → Measures s m from to room sum
-      go zero e =
+      go : (es : List ℕ) → ends ≡ es → Measures s m from to room sum
+      go [] e =
           let a = rw e at t.width in
           let b = none_wide s m row end (let x = low in omega arith) in
           let c = t.cap in
           let d = low in
           let f = reached in
           record { width = omega arith; cap = omega arith }
-      go (suc q) e = absurd (let x = low in let y = reached in omega arith)
+      go (x ∷ xs) e = absurd (let n : length ends ≡ suc (length xs) = ap length e in let x = low in let y = reached in omega arith)
 
   pub part_nested : Nested s from to → Nested s row end
   part_nested n =
@@ -192,28 +178,28 @@ module _ (s m : List ℕ) (from to : ℕ) (ends : List ℕ) (p row end sum : ℕ
       let b = n.few in
       record { room = omega arith; few = omega arith; nests = nests_weaken 0 (omega arith) t.nests }
 
-  pub shallow : row < end → p < MAX_DEPTH
+  pub shallow : row < end → length ends < MAX_DEPTH
   shallow h = nests_deep t.nests h
 
   -- a sum in the part goes on up to an `IfWrap`
-  pub further : (next w : ℕ) → Passed s m row end next w → Open s m from to ends p next end (sum + w)
+  pub further : (next w : ℕ) → Passed s m row end next w → Open s m from to ends next end (sum + w)
   further next w q =
       let a = t.width in
       let b = q.width in
       let c = t.cap in
       let d = q.cap in
-      record { width = omega arith; nests = q.nests p t.nests; fine = t.fine; deep = t.deep; size = t.size; cap = omega arith }
+      record { width = omega arith; nests = q.nests (length ends) t.nests; fine = t.fine; cap = omega arith }
 
   module _ (room w : ℕ) (l : sum ≤ room) (q : Measures s m row end (room - sum) w) where
     -- or to the end of the part
-    pub part_over : w ≤ room - sum → Open s m from to ends p end end (sum + w)
+    pub part_over : w ≤ room - sum → Open s m from to ends end end (sum + w)
     part_over h =
         let a = t.width in
         let b = q.width in
         let c = t.cap in
         let d = q.cap in
         let e = none_wide s m end end (omega arith) in
-        record { width = omega arith; nests = over refl; fine = t.fine; deep = t.deep; size = t.size; cap = omega arith }
+        record { width = omega arith; nests = over refl; fine = t.fine; cap = omega arith }
 
     -- or past the room
     pub no_room : room - sum < w → Measures s m from to room (room + 1)
@@ -226,7 +212,7 @@ module _ (s m : List ℕ) (from to : ℕ) (ends : List ℕ) (p row end sum : ℕ
         record { width = omega arith; cap = omega arith }
 
   -- an `IfWrap` that has wrapped: its first part
-  pub first_part : (mid : ℕ) → row < end → IsWrapped s m row → mid ≡ cell s row SECOND → Open s m from to (set ends p end) (p + 1) (row + 1) mid sum
+  pub first_part : (mid : ℕ) → row < end → IsWrapped s m row → mid ≡ cell s row SECOND → Open s m from to (end ∷ ends) (row + 1) mid sum
   unfolding rest Fine
   first_part mid h k d =
       let kind = kind_cell s row ∙ k.0 in
@@ -236,44 +222,41 @@ module _ (s m : List ℕ) (from to : ℕ) (ends : List ℕ) (p row end sum : ℕ
       let a = t.width in
       let c = t.cap in
       let f = l.0.second in
-      let g = get_or-set_same ends p end 0 (rw t.size (shallow h)) in
-      let r = rest_set s m ends p p end end (omega arith) in
-      rw (add-one row, add-one p, d ∙ sym (second_cell s row))
+      rw (add-one row, d ∙ sym (second_cell s row))
       (record {
-        width = rw (f, g, r) (omega arith);
+        width = rw f (omega arith);
         nests = l.1.first;
-        fine = (let u = l.0.to in omega arith, rw (f, g) l.1.rest, rw g (fine_set s to ends p p end end (omega arith) t.fine));
-        deep = let z = shallow h in omega arith;
-        size = length-set ends p end ∙ t.size;
+        fine = (let u = l.0.to in omega arith, rw f l.1.rest, t.fine);
         cap = omega arith;
       })
 
   -- a part that is over before the range is one of those that were opened
-  pub inner : end ≤ row → row < to → 0 < p
+  pub inner : end ≤ row → row < to → ends ≡ [] → ⊥
   unfolding Fine
-  inner n h = go p refl
-    where
-      go : (q : ℕ) → p ≡ q → 0 < q
-      go zero e = absurd (let f = rw e at t.fine in let x = reached in omega arith)
-      go (suc q) e = omega arith
+  inner n h e = let f = rw e at t.fine in let x = reached in omega arith
+
+-- what is taken off is there, unless nothing is
+pub popped_some : (old new : List ℕ) (o : Option ℕ) → Popped old o new → (old ≡ [] → ⊥) → IsSome o
+popped_some old new (Some x) p n = search rules
+popped_some old new None p n = absurd (n p.0)
 
 -- a first part is over: the part that is not chosen is passed over
-leaves_suc : (s m : List ℕ) (from to : ℕ) (ends : List ℕ) (p row sum : ℕ) → Open s m from to ends (suc p) row row sum
-    → (row < (view_of s).after row) × Open s m from to ends p ((view_of s).after row) (get_or ends p 0) sum
+pub leaves : (s m : List ℕ) (from to : ℕ) (x : ℕ) (xs : List ℕ) (row sum : ℕ) → Open s m from to (x ∷ xs) row row sum
+    → (row < (view_of s).after row) × Open s m from to xs ((view_of s).after row) x sum
 unfolding rest Fine
-leaves_suc s m from to ends p row sum t =
+leaves s m from to x xs row sum t =
     let a = t.width in
     let b = none_wide s m row row (omega arith) in
     let c = t.cap in
     let u = t.fine.0 in
-    (u, record { width = omega arith; nests = t.fine.1; fine = t.fine.2; deep = let z = t.deep in omega arith; size = t.size; cap = omega arith })
+    (u, record { width = omega arith; nests = t.fine.1; fine = t.fine.2; cap = omega arith })
 
-pub leaves : (s m : List ℕ) (from to : ℕ) (ends : List ℕ) (p row end sum next : ℕ) → Open s m from to ends p row end sum → end ≤ row → 0 < p
-    → next ≡ cell s row AFTER → (row < next) × Open s m from to ends (p - 1) next (get_or ends (p - 1) 0) sum
-leaves s m from to ends zero row end sum next t n h e = absurd (omega arith)
-leaves s m from to ends (suc p) row end sum next t n h e =
-    let r = reached s m from to ends (suc p) row end sum t in
+pub leaves_at : (s m : List ℕ) (from to : ℕ) (ends : List ℕ) (row end sum next x : ℕ) (xs : List ℕ) → Open s m from to ends row end sum → end ≤ row
+    → ends ≡ x ∷ xs
+    → next ≡ cell s row AFTER → (row < next) × Open s m from to xs next x sum
+leaves_at s m from to ends row end sum next x xs t n h e =
+    let r = reached s m from to ends row end sum t in
     let i : end ≡ row = omega arith in
-    let z : suc p - 1 ≡ p = omega arith in
-    rw (z, e ∙ sym (after_cell s row))
-    (leaves_suc s m from to ends p row sum (subst (λ (x : ℕ). Open s m from to ends (suc p) row x sum) i t))
+    rw (e ∙ sym (after_cell s row))
+    (leaves s m from to x xs row sum
+    (subst (λ (y : ℕ). Open s m from to (x ∷ xs) row y sum) i (subst (λ (es : List ℕ). Open s m from to es row end sum) h t)))

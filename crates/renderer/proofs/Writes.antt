@@ -24,6 +24,17 @@ zero_max c = omega arith
 plus_none : (n : ℕ) → n ≡ n + 0
 plus_none n = omega arith
 
+-- the output keeps its length, so that what is written next has the same limit
+pub writes_length : (limit : ℕ) (s : Renderer) (out : List ℕ) (p : Writing) (out2 : List ℕ) (q : Writing) → Writes limit s out p out2 q → length out2 ≡ length out
+writes_length limit s out p out2 q d = ap length d.written ∙ over_length limit out p.at.0 s.buf
+
+module _ {s : Renderer} {out : List ℕ} {p : Writing} {out2 : List ℕ} {q : Writing} (d : Writes (length out) s out p out2 q) where
+  pub then_over : {t : Renderer} {out3 : List ℕ} {r : Writing} → Writes (length out2) t out2 q out3 r → Writes (length out) t out2 q out3 r
+  then_over {t} {out3} {r} e = subst (λ (n : ℕ). Writes n t out2 q out3 r) (writes_length (length out) s out p out2 q d) e
+
+  pub room_over : {cap : ℕ} → WritingRoom cap (length out) out2 q → WritingRoom cap (length out2) out2 q
+  room_over r = record { fits = omega arith; indent = r.indent; column = r.column; at = r.at }
+
 -- nothing is written
 pub writes_none : (limit : ℕ) (out : List ℕ) (p : Writing) → Writes limit (fresh_renderer p.pen []) out p out p
 unfolding writing_after written_over
@@ -39,6 +50,11 @@ pub push_writes : (limit : ℕ) (t out : List ℕ) (p : Writing) (out2 : List �
     → Writes limit (push_str t (fresh_renderer p.pen [])) out p out2 (writing p.pen (p.at.0 + n) p.widest.0)
 unfolding push_str writing_after
 push_writes limit t out p out2 n e w = record { after = rw (e, max-zero p.widest.0); written = w }
+
+pub push_pen : (limit : ℕ) (t out : List ℕ) (p : Writing) (out2 : List ℕ) (q : Writing) → Writes limit (push_str t (fresh_renderer p.pen [])) out p out2 q
+    → q.pen ≡ p.pen
+unfolding push_str writing_after
+push_pen limit t out p out2 q d = ap (λ (x : Writing). x.pen) d.after
 
 -- a text, c its last column
 pub put_writes : (limit : ℕ) (t : List ℕ) (c : ℕ) (out : List ℕ) (p : Writing) (out2 : List ℕ) (q : Writing) (n : ℕ) → n ≡ length t

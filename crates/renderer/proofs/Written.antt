@@ -1,17 +1,19 @@
 -- Laws of writing with a limit: a text written behind another is the joined text written at once.
 -- Assumes nothing.
-use mathlib.Core.Path.{◌≡◌, refl, ap, ap₂, sym, ◌∙◌, subst}
+use mathlib.Core.Path.{◌≡◌, refl, ap, sym, ◌∙◌}
 use Prim.Native.Nat.{ℕ, zero, suc, ◌+◌, ◌-◌, ◌≤◌, ◌<◌, min}
 use native.Mathlib.Omega.{arith}
 use native.Mathlib.Numerals.{add-one}
 use mathlib.Core.Bool.{Bool, true, false, cond}
 use mathlib.Core.List.{List, [], ◌∷◌, ◌++◌}
-use lib.ListN.{length, get_or, set, take, drop, replicate, length-set, length-take, length-drop, length-replicate, drop_of_length-le}
-use lib.Seq.{drop-cons, get_or-take, get_or-drop, take-take}
-use lib.Dec.{ltb}
-use borrow.Author.Tests.{lt-ltb, le-ltb}
+use lib.ListN.{length, set, take, drop, replicate, length-set, length-take, length-drop, length-replicate, drop_of_length-le}
+use lib.Seq.{sets, take-nil}
+use Rattle.std.proofs.lemmas.List.{take_min}
+use borrow.Rule.Slice.PartMut.{put_mid, mid_of, mid_len}
+use lib.Dec.{ltb, leb}
+use borrow.Author.Tests.{lt-ltb, le-ltb, leb-true, leb-false}
+use Rattle.rows.proofs.Part.{part_sets}
 use Rattle.rows.specs.Texts.{origin_text}
-use Rattle.rows.specs.Limits.{CELL_LIMIT}
 use Rattle.renderer_rules.specs.Page.{text_bytes, text_of}
 use Rattle.renderer.specs.Output.{written_over}
 
@@ -68,80 +70,40 @@ over_below limit room out at (b ∷ t) (suc k) r e =
     ∙ over_below limit room (set out at b) (at + 1) t k r (omega arith)
     ∙ sym (over_in limit out at b t (omega arith))
 
--- one byte more
-pub over_one : (limit : ℕ) (out : List ℕ) (at b : ℕ) (t : List ℕ)
-    → written_over limit (written_over limit out at (b ∷ [])) (at + 1) t ≡ written_over limit out at (b ∷ t)
-over_one limit out at b t = over_join limit out at (b ∷ []) t
-
--- What the loops keep: going on from here gives the whole.
-pub record Copied (limit : ℕ) (out0 : List ℕ) (at : ℕ) (t out : List ℕ) (j : ℕ) : Type 0 where
-  pub high : j ≤ length t
-  pub size : length out ≡ length out0
-  pub whole : written_over limit out (at + j) (drop j t) ≡ written_over limit out0 at t
-
-pub copied_start : (limit : ℕ) (out : List ℕ) (at : ℕ) (t : List ℕ) → Copied limit out at t out 0
-copied_start limit out at t = record { high = omega arith; size = refl; whole = ap (λ (a : ℕ). written_over limit out a t) (zero_off at) }
-  where
-    zero_off : (at : ℕ) → at + 0 ≡ at
-    zero_off at = omega arith
-
-pub copied_more : (limit : ℕ) (out0 : List ℕ) (at : ℕ) (t out : List ℕ) (j b : ℕ) → Copied limit out0 at t out j → j < length t → at + j < limit
-    → b ≡ get_or t j 0
-    → Copied limit out0 at t (set out (at + j) b) (j + 1)
-copied_more limit out0 at t out j b s h l q =
-    record {
-      high = omega arith;
-      size = length-set out (at + j) b ∙ s.size;
-      whole =
-          ap₂ (λ (o : List ℕ) (a : ℕ). written_over limit o a (drop (j + 1) t)) (emit_in limit out (at + j) b l) (along at j)
-          ∙ over_one limit out (at + j) b (drop (j + 1) t)
-          ∙ ap (written_over limit out (at + j)) (rw (q, add-one j) (sym (drop-cons t j 0 h)))
-          ∙ s.whole;
-    }
-  where
-    along : (at k : ℕ) → at + (k + 1) ≡ at + k + 1
-    along at k = omega arith
-
-pub copied_end : (limit : ℕ) (out0 : List ℕ) (at : ℕ) (t out : List ℕ) (j : ℕ) → Copied limit out0 at t out j → length t ≤ j → out ≡ written_over limit out0 at t
+-- a text that has room is written byte by byte
+over_sets : (out : List ℕ) (at : ℕ) (t : List ℕ) (limit : ℕ) → at + length t ≤ limit → written_over limit out at t ≡ sets out at t
 unfolding written_over
-copied_end limit out0 at t out j s h = ap (written_over limit out (at + j)) (sym (drop_of_length-le t h)) ∙ s.whole
+over_sets out at [] limit h = refl
+over_sets out at (b ∷ t) limit h =
+    over_in limit out at b t (omega arith)
+    ∙ ap (λ (k : ℕ). written_over limit (set out at b) k t) (add-one at)
+    ∙ over_sets (set out at b) (suc at) t limit (omega arith)
 
--- blanks up to the limit
-pub blanks_below : (limit : ℕ) (out : List ℕ) (at n k : ℕ) → limit ≤ length out → k ≡ min n (limit - at)
-    → written_over (length out) out at (replicate k 0x20) ≡ written_over limit out at (replicate n 0x20)
-blanks_below limit out at n k r e =
-    ap (written_over (length out) out at) (sym (take_blanks k n (omega arith)))
-    ∙ over_below limit (length out) out at (replicate n 0x20) k r (let l = length-replicate {A = ℕ} n 0x20 in omega arith)
+-- the part of a text that has room is written at once
+pub part_written : (out : List ℕ) (at : ℕ) (t part : List ℕ) (room : ℕ) → at < length out → room ≡ min (length t) (length out - at) → part ≡ take room t
+    → put_mid at (at + room - at) out part ≡ written_over (length out) out at t
+part_written out at t part room h e f =
+    let l = length-take room t in
+    let n : length (take room t) ≡ room = omega arith in
+    let k : at + room - at ≡ room = omega arith in
+    rw (f, k)
+    (part_sets (take room t) out at room n (omega arith)
+    ∙ sym (over_sets out at (take room t) (length out) (omega arith))
+    ∙ over_below (length out) (length out) out at t room (omega arith) e)
+
+-- the blanks that have room
+pub blanks_written : (out : List ℕ) (at n : ℕ) (part : List ℕ) (room : ℕ) → at < length out → room ≡ min n (length out - at)
+    → part ≡ replicate (length (mid_of at (at + room - at) out)) 0x20
+    → put_mid at (at + room - at) out part ≡ written_over (length out) out at (replicate n 0x20)
+blanks_written out at n part room h e f =
+    let l = length-replicate {A = ℕ} n 0x20 in
+    let k : length (mid_of at (at + room - at) out) ≡ room = mid_len at (at + room) out (omega arith) ∙ omega arith in
+    part_written out at (replicate n 0x20) part room h (omega arith) (f ∙ ap (λ (m : ℕ). replicate m 0x20) k ∙ sym (take_blanks room n (omega arith)))
   where
     take_blanks : (k n : ℕ) → k ≤ n → take {A = ℕ} k (replicate n 0x20) ≡ replicate k 0x20
     take_blanks zero n h = refl
     take_blanks (suc k) zero h = absurd (omega arith)
     take_blanks (suc k) (suc n) h = ap (λ (t : List ℕ). 0x20 ∷ t) (take_blanks k n (omega arith))
-
-pub blanks_size : (n k : ℕ) → n ≤ k → length {A = ℕ} (replicate n 0x20) ≤ k
-blanks_size n k h = let e = length-replicate {A = ℕ} n 0x20 in omega arith
-
-pub blanks_in : (n k : ℕ) → k < n → k < length {A = ℕ} (replicate n 0x20)
-blanks_in n k h = let e = length-replicate {A = ℕ} n 0x20 in omega arith
-
--- a part of a text, by its bytes
-pub part_size : (t : List ℕ) (start n : ℕ) → n ≤ length t - start → length (take n (drop start t)) ≡ n
-part_size t start n h = let a = length-take n (drop start t) in let b = length-drop start t in omega arith
-
-pub part_at : (t : List ℕ) (start n j : ℕ) → j < n → get_or t (start + j) 0 ≡ get_or (take n (drop start t)) j 0
-part_at t start n j h = sym (get_or-take n (drop start t) j 0 h ∙ get_or-drop start t j 0)
-
-pub part_none : (limit : ℕ) (out : List ℕ) (at : ℕ) (t : List ℕ) (n : ℕ) → n ≡ 0 → out ≡ written_over limit out at (take n t)
-unfolding written_over
-part_none limit out at t n e = rw e
-
--- a part of a text that is t
-pub room_of : (t u : List ℕ) (start n : ℕ) → u ≡ t → n ≤ length u - start → n ≤ length t - start
-room_of t u start n e h = subst (λ (x : List ℕ). n ≤ length x - start) e h
-
-pub part_of : (limit : ℕ) (out : List ℕ) (at : ℕ) (t u : List ℕ) (start n : ℕ) (out2 : List ℕ) → u ≡ t → out2 ≡ written_over limit out at (take n (drop start t))
-    → out2 ≡ written_over limit out at (take n (drop start u))
-part_of limit out at t u start n out2 e h = h ∙ ap (λ (x : List ℕ). written_over limit out at (take n (drop start x))) (sym e)
 
 -- The text of a row.
 pub text_size : (source image : List ℕ) (origin start size : ℕ)
@@ -149,25 +111,23 @@ pub text_size : (source image : List ℕ) (origin start size : ℕ)
 unfolding text_bytes
 text_size source image origin start size = simp (length-take, length-drop)
 
-pub text_count : (source image : List ℕ) (origin start size len n : ℕ) → len ≡ length (origin_text source image origin) → n ≡ min size (len - start)
-    → n ≡ length (text_bytes source image (text_of origin start size))
-text_count source image origin start size len n e h = h ∙ ap (λ (m : ℕ). min size (m - start)) e ∙ sym (text_size source image origin start size)
-
--- its part below the limit
-pub text_below : (limit : ℕ) (out : List ℕ) (at : ℕ) (source image : List ℕ) (origin start size n k : ℕ) → limit ≤ length out
-    → n ≡ length (text_bytes source image (text_of origin start size))
-    → k ≡ min n (limit - at)
-    → written_over (length out) out at (take k (drop start (origin_text source image origin)))
-    ≡ written_over limit out at (text_bytes source image (text_of origin start size))
-unfolding text_bytes
-text_below limit out at source image origin start size n k r e h =
-    let l = length-take size (drop start (origin_text source image origin)) in
-    ap (written_over (length out) out at) (sym (take-take k size (drop start (origin_text source image origin)) (omega arith)))
-    ∙ over_below limit (length out) out at (take size (drop start (origin_text source image origin))) k r (omega arith)
-
 pub text_fits : (source image : List ℕ) (origin start size : ℕ) → length (text_bytes source image (text_of origin start size)) ≤ size
 text_fits source image origin start size = let e = text_size source image origin start size in omega arith
 
-pub text_small : (source image : List ℕ) (origin start size n : ℕ)
-    → n ≡ length (text_bytes source image (text_of origin start size)) → size < CELL_LIMIT → n < CELL_LIMIT
-text_small source image origin start size n e h = let f = text_fits source image origin start size in omega arith
+-- the part of a text from `start` on, as far as it goes
+pub part_text : (t : List ℕ) (start size from end : ℕ) → from ≡ min start (length t) → end ≡ min (from + size) (length t)
+    → take (end - from) (drop from t) ≡ take size (drop start t)
+part_text t start size from end e f = go (leb start (length t)) refl
+  where
+    go : (b : Bool) → leb start (length t) ≡ b → take (end - from) (drop from t) ≡ take size (drop start t)
+    go true h =
+        let l = leb-true start (length t) h in
+        let d = length-drop start t in
+        let i : from ≡ start = omega arith in
+        let k : end - start ≡ min size (length (drop start t)) = omega arith in
+        rw (i, k) (take_min size (drop start t))
+    go false h =
+        let l = leb-false start (length t) h in
+        let i : end - from ≡ 0 = omega arith in
+        let m : length t ≤ start = omega arith in
+        rw (i, drop_of_length-le t m) (sym (take-nil size))

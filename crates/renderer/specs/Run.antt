@@ -1,5 +1,5 @@
 -- The contracts of the rendering loop: the run of the code as the machine, and what each of its functions does.
-use Rattle.std.specs.Prelude.{ℕ, ◌+◌, ◌*◌, ◌-◌, ◌/◌, ◌%◌, ◌≤◌, ◌<◌, ◌≡◌, Bool, true, false, cond, not, ◌&&◌, List, [], map, length, set, eqb}
+use Rattle.std.specs.Prelude.{ℕ, ◌+◌, ◌*◌, ◌-◌, ◌≤◌, ◌<◌, ◌≡◌, Bool, true, false, cond, not, ◌&&◌, List, [], length, set, eqb}
 use Rattle.rows.specs.Kinds.{INDENT, INDENT_NEXT, CALL}
 use Rattle.rows.specs.Places.{KIND, NUMBER, SECOND_NUMBER, SECOND, AFTER, WIDTH, PLACES}
 use Rattle.rows.specs.Limits.{MAX_ROWS, MAX_DEPTH}
@@ -16,13 +16,10 @@ use Rattle.renderer_rules.specs.Machine.{Machine, frame_of}
 use Rattle.renderer_rules.specs.Safe.{Safe, SmallTexts}
 use Rattle.renderer.specs.declared.writing.Writing.{Writing}
 use Rattle.renderer.specs.declared.run.Run.{Run}
+use Rattle.renderer.specs.declared.frames.Frames.{Frames}
 use Rattle.renderer.specs.declared.run.Bounds.{Bounds}
 use Rattle.renderer.specs.Output.{written_over}
 use Rattle.renderer.specs.Writing.{set_pen}
-
--- an open row from its number: the row times 8, and a bit for each flag
-unfoldable pub unpacked_frame : ℕ → Frame
-unpacked_frame n = record { row = n / 8; wrap = eqb (n / 4 % 2) 1; first = eqb (n / 2 % 2) 1; deeper = eqb (n % 2) 1 }
 
 -- a run with its open rows
 pub record Running : Type 0 where
@@ -31,16 +28,8 @@ pub record Running : Type 0 where
   pub next : ℕ
   pub writing : Writing
 
-abbrev pub with_frames : List Frame → Run → Running
-with_frames fs r = record { frames = fs; depth = r.depth; next = r.next; writing = r.writing }
-
--- a run whose open rows are these numbers
-abbrev pub whole_run : List ℕ → Run → Running
-whole_run ns r = with_frames (map unpacked_frame ns) r
-
--- a run without its open rows
-abbrev pub bare_run : Running → Run
-bare_run r = record { depth = r.depth; next = r.next; writing = r.writing }
+abbrev pub with_frames : Frames → Run → Running
+with_frames fs r = record { frames = fs.items; depth = fs.depth; next = r.next; writing = r.writing }
 
 -- the renderer that has written b so far
 abbrev pub state_of : Writing → List ℕ → List ℕ → Renderer
@@ -90,7 +79,7 @@ abbrev pub reopened_run : Running → Frame → Running
 reopened_run r f = record { frames = set r.frames (r.depth - 1) f; depth = r.depth; next = r.next; writing = r.writing }
 
 -- the numbers of a run that enters a row
-pub record Enters (store : List ℕ) (r : Run) : Type 0 where
+pub record Enters (store : List ℕ) (r : Running) : Type 0 where
   pub depth : r.depth < MAX_DEPTH
   pub row : r.next * PLACES + WIDTH < length store
   pub few : r.next < MAX_ROWS
@@ -103,8 +92,8 @@ pub record Entering (store source image : List ℕ) (max limit stop : ℕ) (mark
   pub inside : r.next < part_limit (view_of store) stop r.frames r.depth
 
 -- a run that takes a turn: it is ready, and not done yet
-pub record Turning (store source image : List ℕ) (bounds : Bounds) (marks out : List ℕ) (r : Running) : Type 0 where
-  pub ready : Ready store source image bounds.max.0 bounds.limit.0 bounds.stop marks out r
+pub record Turning (store source image : List ℕ) (limit : ℕ) (bounds : Bounds) (marks out : List ℕ) (r : Running) : Type 0 where
+  pub ready : Ready store source image bounds.max.0 limit bounds.stop marks out r
   pub more : r.depth ≡ 0 → r.next < bounds.stop
 
 -- a run that opens a row, which reads no text and writes none
@@ -171,7 +160,7 @@ pub record Backs (kind : ℕ) (f : Frame) (p : Pen) : Type 0 where
   pub call : kind ≡ CALL → f.deeper ≡ true → 1 ≤ p.indent + p.next_indent
 
 -- the numbers of a run that leaves the innermost row, whose frame is f
-pub record Leaves (store : List ℕ) (r : Run) (f : Frame) : Type 0 where
+pub record Leaves (store : List ℕ) (r : Running) (f : Frame) : Type 0 where
   pub pos : 0 < r.depth
   pub depth : r.depth ≤ MAX_DEPTH
   pub row : f.row * PLACES + WIDTH < length store
@@ -182,26 +171,24 @@ pub record Leaves (store : List ℕ) (r : Run) (f : Frame) : Type 0 where
   pub arguments : cell store f.row KIND ≡ CALL → f.first ≡ true → Nested store r.next (cell store f.row AFTER)
 
 -- the run with its innermost row closed, row k next and another pen; and with the row of f closed
-abbrev pub closed_at : Run → ℕ → Pen → Run
-closed_at r k p = record { depth = r.depth - 1; next = k; writing = set_pen p r.writing }
+abbrev pub closed_at : Running → ℕ → Pen → Running
+closed_at r k p = record { frames = r.frames; depth = r.depth - 1; next = k; writing = set_pen p r.writing }
 
-abbrev pub closed_run : List ℕ → Run → Frame → Run
+abbrev pub closed_run : List ℕ → Running → Frame → Running
 closed_run store r f = closed_at r (cell store f.row AFTER) (closes (cell store f.row KIND) f r.writing.pen)
 
 -- The innermost row is left: the arguments of a `Call` are opened, or the row is closed.
 pub data Left (store : List ℕ) (max : ℕ) (marks : List ℕ) (r : Running) (f : Frame) (marks2 : List ℕ) (q : Running) : Type 0 where
   goes_on : cell store f.row KIND ≡ CALL → f.first ≡ true → ArgumentsOpened store max marks r f marks2 q → Left store max marks r f marks2 q
-  ends : (cell store f.row KIND ≡ CALL → f.first ≡ false) → marks2 ≡ marks → q ≡ with_frames r.frames (closed_run store (bare_run r) f) → Left store max marks r f marks2 q
+  ends : (cell store f.row KIND ≡ CALL → f.first ≡ false) → marks2 ≡ marks → q ≡ closed_run store r f → Left store max marks r f marks2 q
 
--- a rendering may start: no row is open, the rows up to the stop nest, and the state's numbers are in range
-pub record Starting (store : List ℕ) (limit stop : ℕ) (out : List ℕ) (r : Run) : Type 0 where
-  pub none_open : r.depth ≡ 0
-  pub nested : Nested store r.next stop
-  pub fits : limit ≤ length out
-  pub margin : r.writing.pen.indent + r.writing.pen.next_indent ≤ START_MARGIN
-  pub column : r.writing.pen.column.0 ≤ MAX_COLUMN
-  pub at : r.writing.at.0 ≡ 0
-  pub widest : r.writing.widest.0 ≡ 0
+-- a rendering may start: the rows from a row up to the stop nest, and the state's numbers are in range
+pub record Starting (store : List ℕ) (from stop : ℕ) (p : Writing) : Type 0 where
+  pub nested : Nested store from stop
+  pub margin : p.pen.indent + p.pen.next_indent ≤ START_MARGIN
+  pub column : p.pen.column.0 ≤ MAX_COLUMN
+  pub at : p.at.0 ≡ 0
+  pub widest : p.widest.0 ≡ 0
 
 -- what s has is what the writing, the marks and the output have become
 pub record Ended (limit : ℕ) (s : Renderer) (out marks2 out2 : List ℕ) (q : Writing) : Type 0 where

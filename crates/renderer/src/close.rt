@@ -1,92 +1,68 @@
 // How the open part of a row ends, and what the end of a row takes back.
-ghost use Rattle.std.specs.Prelude.{◌≡◌, ◌+◌, ◌-◌, ◌*◌, ◌<◌, length};
+ghost use Rattle.std.specs.Prelude.{◌≡◌, ◌+◌, ◌*◌, ◌<◌, length};
 ghost use Rattle.rows.specs.Places.{WIDTH, PLACES};
 ghost use Rattle.rows.specs.View.{view_of};
 ghost use Rattle.renderer_rules.specs.Frames.{part_end};
-ghost use Rattle.renderer.specs.Run.{whole_run, closed_at, closed_run, closes, Backs, Leaves, Left};
+ghost use Rattle.renderer.specs.Run.{with_frames, closed_run, closes, Backs, Leaves, Left};
 
-use crate::margin::{outdent, outdent_next};
-use crate::open::enter_arguments;
+use crate::frames::Frames;
 use crate::run::Run;
-use crate::writing::set_pen;
 use renderer_rules::{Frame, Pen};
 use rows::kinds::{CALL, INDENT, INDENT_NEXT};
-use rows::limits::MAX_DEPTH;
 use rows::places::{AFTER, KIND, SECOND};
-use rows::store::{place, to_usize};
+use rows::store::place;
 use rows::units::Columns;
 
 // Where the open part of a row ends.
+#[tactic(auto, unfolding(rows::specs::View::view_of, renderer_rules::specs::Frames::part_end))]
 pub(crate) fn part_end(store: &[u32], f: Frame) -> usize
     requires { f.row * PLACES + WIDTH < length store.now }
     ensures { result ≡ part_end (view_of store.now) f }
 {
-    if f.first {
-        return place(store, to_usize(f.row), SECOND);
-    }
-    place(store, to_usize(f.row), AFTER)
-}
-
-// The innermost row is closed.
-fn closed(r: Run, next: usize, pen: Pen) -> Run
-    requires { 0 < r.depth }
-    ensures { result ≡ closed_at r next pen }
-{
-    let w = r.writing;
-    Run {
-        depth: r.depth - 1,
-        next: next,
-        writing: set_pen(w, pen),
-    }
+    place(store, f.row as usize, if f.first { SECOND } else { AFTER })
 }
 
 // What the end of a row takes back.
-fn close(p: Pen, kind: usize, f: Frame) -> Pen
-    requires { Backs kind f p }
-    ensures { result ≡ closes kind f p }
+fn take_back(pen: &mut Pen, kind: usize, f: Frame)
+    requires { Backs kind f pen.old }
+    ensures { pen.new ≡ closes kind f pen.old }
 {
-    if kind == INDENT {
-        return outdent(p, f.wrap);
+    match kind {
+        INDENT => pen.indent_less(f.wrap),
+        INDENT_NEXT => pen.next_indent_less(f.wrap),
+        CALL => pen.next_indent_less(f.deeper),
+        _ => {}
     }
-    if kind == INDENT_NEXT {
-        return outdent_next(p, f.wrap);
-    }
-    if kind == CALL {
-        return outdent_next(p, f.deeper);
-    }
-    p
 }
 
-// The innermost row is closed, and the row after it is next.
-fn finish(r: Run, f: Frame, store: &[u32]) -> Run
-    requires { Leaves store.now r f }
-    ensures { result ≡ closed_run store.now r f }
-{
-    let row = to_usize(f.row);
-    let kind = place(store, row, KIND);
-    let next = place(store, row, AFTER);
-    let w = r.writing;
-    closed(r, next, close(w.pen, kind, f))
-}
+impl Run {
+    // The innermost row is closed, and the row after it is next.
+    fn close(&mut self, frames: &mut Frames, f: Frame, store: &[u32])
+        requires { Leaves store.now (with_frames frames.old self.old) f }
+        ensures { with_frames frames.new self.new ≡ closed_run store.now (with_frames frames.old self.old) f }
+    {
+        let row = f.row as usize;
+        take_back(&mut self.writing.pen, place(store, row, KIND), f);
+        frames.pop();
+        self.next = place(store, row, AFTER);
+    }
 
-// The open part of the innermost row is done.
-pub(crate) fn leave(
-    r: Run,
-    frames: &mut [u32; MAX_DEPTH],
-    f: Frame,
-    store: &[u32],
-    marks: &mut [u8],
-    max: Columns,
-) -> Run
-    requires { Leaves store.now r f }
-    ensures { Left store.now max.0 marks.old (whole_run frames.old r) f marks.new (whole_run frames.new result) }
-{
-    let kind = place(store, to_usize(f.row), KIND);
-    if kind != CALL {
-        return finish(r, f, store);
+    // The open part of the innermost row is done.
+    pub(crate) fn leave(
+        &mut self,
+        frames: &mut Frames,
+        f: Frame,
+        store: &[u32],
+        marks: &mut [u8],
+        max: Columns,
+    )
+        requires { Leaves store.now (with_frames frames.old self.old) f }
+        ensures { Left store.now max.0 marks.old (with_frames frames.old self.old) f marks.new (with_frames frames.new self.new) }
+    {
+        if place(store, f.row as usize, KIND) == CALL && f.first {
+            self.enter_arguments(frames, f, store, marks, max);
+        } else {
+            self.close(frames, f, store);
+        }
     }
-    if f.first {
-        return enter_arguments(r, frames, f, store, marks, max);
-    }
-    finish(r, f, store)
 }

@@ -14,14 +14,16 @@ use rows::units::Columns;
 use rows::wrap::must_wrap;
 
 // The column, or where the line will start.
+#[tactic(auto, unfolding(renderer_rules::specs::Renderer::virtual_column))]
 fn virtual_column(p: Pen) -> Columns
     requires { p.indent ≤ MAX_MARGIN }
     ensures { result.0 ≡ virtual_column p }
 {
     if 0 < p.column.0 {
-        return p.column;
+        p.column
+    } else {
+        margin_columns(p.indent)
     }
-    margin_columns(p.indent)
 }
 
 // Whether the rows from `from` up to `to` go past the line's end. Nothing is measured past it.
@@ -45,6 +47,7 @@ pub(crate) fn exceeds(
 }
 
 // Whether the group of the rows from `from` up to `to` wraps.
+#[tactic(auto, unfolding(renderer_rules::specs::Renderer::group_wraps, renderer_rules::specs::Renderer::wraps))]
 pub(crate) fn group_wraps(
     p: Pen,
     store: &[u32],
@@ -56,10 +59,7 @@ pub(crate) fn group_wraps(
     requires { Nested store.now from to × ((p.indent ≤ MAX_MARGIN) × (p.column.0 < BEFORE_ROW)) }
     ensures { result ≡ group_wraps (page_of max.0 [] []) (nodes_at (view_of store.now) from to) (fresh_renderer p marks.now) }
 {
-    if must_wrap(store, from, to) {
-        return true;
-    }
-    exceeds(p, store, marks, from, to, max)
+    must_wrap(store, from, to) || exceeds(p, store, marks, from, to, max)
 }
 
 // Whether a call keeps its callee's line: the first branch of `Call`. The callee's rows are those up to `mid`, the arguments' up to `to`;
@@ -78,13 +78,7 @@ pub(crate) fn trailing_call(
     requires over_value { over ≡ ltb max.0 (virtual_column p + widths byte_columns marks.now (nodes_at (view_of store.now) from to)) }
     ensures { result ≡ trailing_call (page_of max.0 [] []) (nodes_at (view_of store.now) from mid) (nodes_at (view_of store.now) mid to) (fresh_renderer p marks.now) }
 {
-    if !over {
-        return false;
-    }
-    if must_wrap(store, from, mid) {
-        return false;
-    }
-    if must_wrap(store, mid, to) {
+    if !over || must_wrap(store, from, mid) || must_wrap(store, mid, to) {
         return false;
     }
     virtual_column(p).0 + width_past(store, marks, from, mid, max).0 + 1 < max.0

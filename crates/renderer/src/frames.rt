@@ -1,35 +1,72 @@
-// An open row as a number: the row times 8, and a bit for each flag.
-ghost use Rattle.std.specs.Prelude.{◌≡◌, ◌<◌, cond};
-ghost use Rattle.rows.specs.Limits.{MAX_ROWS};
-ghost use Rattle.renderer.specs.Run.{unpacked_frame};
+// The open rows of a rendering.
+ghost use Rattle.std.specs.Prelude.{◌≡◌, ◌+◌, ◌-◌, ◌≤◌, ◌<◌, true, false, cond, length, set, ltb};
+ghost use Rattle.rows.specs.Limits.{MAX_DEPTH};
+ghost use Rattle.renderer_rules.specs.Frames.{frame_at};
+ghost use Rattle.renderer_rules.specs.Machine.{frame_of};
 
 use renderer_rules::Frame;
+use rows::limits::MAX_DEPTH;
 
-fn bit(b: bool) -> u32
-    ensures { result ≡ cond b 1 0 }
-{
-    if b {
-        return 1;
+// What is around the rows where none is open: it wraps.
+const AROUND: Frame = Frame {
+    row: 0,
+    wrap: true,
+    first: false,
+    deeper: false,
+};
+
+// The open rows, the outermost first, and how many they are.
+// kept: not `rows::stack::Stack`, since no struct holds an array of a type parameter; and its fields are seen, as the machine of the rules has them.
+#[derive(Drop)]
+pub struct Frames {
+    pub items: [Frame; MAX_DEPTH],
+    pub depth: usize,
+}
+
+impl Frames {
+    pub(crate) fn new() -> Self
+        ensures { (result.depth ≡ 0) × (length result.items ≡ MAX_DEPTH) }
+    {
+        Frames {
+            items: [AROUND; MAX_DEPTH],
+            depth: 0,
+        }
     }
-    0
-}
 
-// The number of an open row.
-pub(crate) fn pack(f: Frame) -> u32
-    requires { f.row < MAX_ROWS }
-    ensures { unpacked_frame result ≡ f }
-{
-    f.row * 8 + bit(f.wrap) * 4 + bit(f.first) * 2 + bit(f.deeper)
-}
+    // The innermost open row.
+    pub(crate) fn innermost(&self) -> Frame
+        requires { self.now.depth ≤ MAX_DEPTH }
+        ensures { result ≡ cond (ltb 0 self.now.depth) (frame_at self.now.items (self.now.depth - 1)) (frame_of 0 true false false) }
+    {
+        if 0 < self.depth {
+            self.items[self.depth - 1]
+        } else {
+            AROUND
+        }
+    }
 
-// The open row of a number.
-pub(crate) fn unpack(n: u32) -> Frame
-    ensures { result ≡ unpacked_frame n }
-{
-    Frame {
-        row: n / 8,
-        wrap: n / 4 % 2 == 1,
-        first: n / 2 % 2 == 1,
-        deeper: n % 2 == 1,
+    // A row is opened within the innermost.
+    pub(crate) fn push(&mut self, f: Frame)
+        requires { self.old.depth < MAX_DEPTH }
+        ensures { self.new ≡ record { items = set self.old.items self.old.depth f; depth = self.old.depth + 1 } }
+    {
+        self.items[self.depth] = f;
+        self.depth += 1;
+    }
+
+    // The innermost row is another from here on.
+    pub(crate) fn replace(&mut self, f: Frame)
+        requires { (0 < self.old.depth) × (self.old.depth ≤ MAX_DEPTH) }
+        ensures { self.new ≡ record { items = set self.old.items (self.old.depth - 1) f; depth = self.old.depth } }
+    {
+        self.items[self.depth - 1] = f;
+    }
+
+    // The innermost row is closed.
+    pub(crate) fn pop(&mut self)
+        requires { 0 < self.old.depth }
+        ensures { self.new ≡ record { items = self.old.items; depth = self.old.depth - 1 } }
+    {
+        self.depth -= 1;
     }
 }

@@ -5,10 +5,7 @@ ghost use Rattle.std.specs.Prelude.{◌≡◌, cond, set};
 pub(crate) fn insert(marks: &mut [u8], number: usize, wraps: bool)
     ensures { marks.new ≡ cond wraps (set marks.old number 1) marks.old }
 {
-    if wraps {
-        if number < marks.len() {
-            marks[number] = 1;
-            return;
-        }
+    if wraps && number < marks.len() {
+        marks[number] = 1;
     }
 }

@@ -9,13 +9,15 @@ ghost use Rattle.rows.specs.Nesting.{Nested};
 use rows::kinds::IF_WRAP;
 use rows::limits::MAX_DEPTH;
 use rows::places::{AFTER, KIND, NUMBER, SECOND};
-use rows::store::{place, to_usize};
+use rows::stack::Stack;
+use rows::store::place;
 use rows::units::Columns;
 use rows::width::own_width;
 use rows::wrap::is_wrapped;
 
 // What stopped a sum of widths.
-#[derive(Drop)]
+// kept: neither end is a failure of the other, so that a Result would say less.
+#[derive(Clone, Copy, Debug, PartialEq, Eq)]
 enum Measured {
     // the range's end, or the room's: the width, or one column more than there is room for
     Width(Columns),
@@ -27,13 +29,11 @@ enum Measured {
 fn clip(w: Columns, room: Columns) -> Columns
     ensures { result.0 ≡ min (room.0 + 1) w.0 }
 {
-    if room.0 < w.0 {
-        return Columns(room.0 + 1);
-    }
-    w
+    if room.0 < w.0 { Columns(room.0 + 1) } else { w }
 }
 
 // The width of the rows from `from` up to the first `IfWrap` that has wrapped, or up to `to`. No row is read once the room is passed.
+// kept: the next row is one on or behind a part, so that no range has the rows.
 fn until_wrapped(store: &[u32], marks: &[u8], from: usize, to: usize, room: Columns) -> Measured
     requires { Nested store.now from to }
     ensures { Stopped store.now marks.now from to room.0 result }
@@ -46,7 +46,7 @@ fn until_wrapped(store: &[u32], marks: &[u8], from: usize, to: usize, room: Colu
         }
         let kind = place(store, row, KIND);
         if kind != IF_WRAP {
-            sum = Columns(sum.0 + own_width(store, row, kind).0);
+            sum = sum + own_width(store, row, kind);
             row += 1;
         } else {
             if is_wrapped(marks, place(store, row, NUMBER)) {
@@ -60,37 +60,35 @@ fn until_wrapped(store: &[u32], marks: &[u8], from: usize, to: usize, room: Colu
 
 // The same from an `IfWrap` on that has wrapped. Inside its first part, `end` is where that part ends, and `ends` has what `end` was
 // outside it.
+// kept: the next row is one on or behind a part, so that no range has the rows.
 fn wrapped_width(store: &[u32], marks: &[u8], from: usize, to: usize, room: Columns) -> Columns
     requires { Nested store.now from to × IsWrapped store.now marks.now from }
     ensures { Measures store.now marks.now from to room.0 result.0 }
 {
-    let mut ends = [0u32; MAX_DEPTH];
-    let mut depth: usize = 0;
+    let mut ends: Stack<MAX_DEPTH> = Stack::new();
     let mut row = from;
     let mut end = to;
     let mut sum = Columns(0);
     while row < to {
         if row < end {
-            ends[depth] = end as u32;
-            depth += 1;
+            ends.push(end as u32);
             end = place(store, row, SECOND);
             row += 1;
         } else {
-            depth -= 1;
-            end = to_usize(ends[depth]);
+            end = ends.pop().unwrap() as usize;
             row = place(store, row, AFTER);
         }
         match until_wrapped(store, marks, row, end, Columns(room.0 - sum.0)) {
             Measured::Wrapped(at, w) => {
                 row = at;
-                sum = Columns(sum.0 + w.0);
+                sum = sum + w;
             }
             Measured::Width(w) => {
                 if room.0 - sum.0 < w.0 {
                     return Columns(room.0 + 1);
                 }
                 row = end;
-                sum = Columns(sum.0 + w.0);
+                sum = sum + w;
             }
         }
     }
@@ -112,7 +110,7 @@ pub(crate) fn width_past(
     match until_wrapped(store, marks, from, to, room) {
         Measured::Width(w) => w,
         Measured::Wrapped(row, w) => {
-            Columns(w.0 + wrapped_width(store, marks, row, to, Columns(room.0 - w.0)).0)
+            w + wrapped_width(store, marks, row, to, Columns(room.0 - w.0))
         }
     }
 }

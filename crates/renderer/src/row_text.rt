@@ -1,29 +1,20 @@
 // The text of a row.
 ghost use Rattle.std.specs.Prelude.{◌≡◌, ◌+◌, ◌*◌, ◌<◌, length};
-ghost use Rattle.rows.specs.Places.{ORIGIN, START, SIZE, WIDTH, PLACES};
+ghost use Rattle.rows.specs.Places.{WIDTH, PLACES};
 ghost use Rattle.rows.specs.Limits.{CELL_LIMIT};
-ghost use Rattle.rows.specs.View.{cell};
+ghost use Rattle.renderer.specs.Output.{row_bytes};
 
-use rows::places::{ORIGIN, START};
-use rows::store::{place, text_size};
-use rows::units::Bytes;
+use rows::origins::origin_text;
+use rows::places::{ORIGIN, SIZE, START};
+use rows::store::place;
 
-// Where it comes from, its start there and its length.
-#[derive(Clone, Copy)]
-pub struct RowText {
-    pub origin: usize,
-    pub start: usize,
-    pub size: Bytes,
-}
-
-pub(crate) fn row_text(store: &[u32], row: usize) -> RowText
+// As far as it lies inside its origin. (All does, in rows that were checked.)
+pub(crate) fn row_text<'a>(store: &[u32], row: usize, source: &'a [u8], image: &'a [u8]) -> &'a [u8]
     requires { row * PLACES + WIDTH < length store.now }
-    ensures { (result.origin ≡ cell store.now row ORIGIN) × ((result.start ≡ cell store.now row START) × ((result.size.0 ≡ cell store.now row SIZE) × ((result.start < CELL_LIMIT) × (result.size.0 < CELL_LIMIT)))) }
+    ensures { (result.now ≡ row_bytes source.now image.now store.now row) × (length result.now < CELL_LIMIT) }
 {
-    let size = text_size(store, row);
-    RowText {
-        origin: place(store, row, ORIGIN),
-        start: place(store, row, START),
-        size: size,
-    }
+    let text = origin_text(source, image, place(store, row, ORIGIN));
+    let start = place(store, row, START).min(text.len());
+    let end = (start + place(store, row, SIZE)).min(text.len());
+    &text[start..end]
 }

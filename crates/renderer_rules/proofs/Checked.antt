@@ -4,7 +4,7 @@ use mathlib.Core.Path.{◌≡◌, refl, sym, subst, ◌∙◌}
 use Prim.Native.Nat.{ℕ, zero, suc, ◌-◌, ◌≤◌, ◌<◌}
 use native.Mathlib.Omega.{arith}
 use mathlib.Core.Bool.{Bool, true, false, cond, ◌&&◌, ◌||◌}
-use mathlib.Core.Option.{Option, some, none}
+use Rattle.std.specs.Prelude.{Option, Some, None}
 use lib.Dec.{ltb, leb, eqb}
 use borrow.Author.Tests.{lt-ltb, le-leb, eq-eqb, ltb-true, ltb-false, leb-true, eqb-true, eqb-false}
 use Rattle.rows.specs.Limits.{MAX_DEPTH}
@@ -18,9 +18,9 @@ use Rattle.rows.proofs.Nested.{nests_le, nests_leaf, nests_two, nests_pair, nest
 use Rattle.renderer_rules.specs.Check.{reaches, is_leaf, has_two, is_split, parts_fit, row_fits_of, or_later}
 use Rattle.renderer_rules.specs.Check.{first_wrong, wrong_row_of, places_fit, wrong_place, FaultOfPart}
 
-pub no_wrong : (a b : Option ℕ) → or_later a b ≡ none → (a ≡ none) × (b ≡ none)
-no_wrong none b e = (refl, e)
-no_wrong (some i) b e = absurd (never i e)
+pub no_wrong : (a b : Option ℕ) → or_later a b ≡ None → (a ≡ None) × (b ≡ None)
+no_wrong None b e = (refl, e)
+no_wrong (Some i) b e = absurd (never i e)
 
 -- What is accepted nests.
 
@@ -146,10 +146,10 @@ fits_row places v end d i e =
     }
 
 sound_step : (places : ℕ → Bool) (v : View) (end d i : ℕ) (a b : Bool) (r t : Option ℕ) → ltb i end ≡ a → row_fits_of places v end d i ≡ b
-    → cond a (cond b (or_later r t) (some i)) none ≡ none
+    → cond a (cond b (or_later r t) (Some i)) None ≡ None
     → i ≤ end
-    → (RangeIn v i end → r ≡ none → Nests v (suc i) (v.after i) (suc d))
-    → (RangeIn v i end → t ≡ none → Nests v (v.after i) end d)
+    → (RangeIn v i end → r ≡ None → Nests v (suc i) (v.after i) (suc d))
+    → (RangeIn v i end → t ≡ None → Nests v (v.after i) end d)
     → Nests v i end d
 sound_step places v end d i true true r t p q e l f g =
     let x = no_wrong r t e in
@@ -158,7 +158,7 @@ sound_step places v end d i true true r t p q e l f g =
 sound_step places v end d i true false r t p q e l f g = absurd (never i e)
 sound_step places v end d i false b r t p q e l f g = over {i = i} {j = end} (let h = ltb-false i end p in omega arith)
 
-sound : (f : ℕ) (places : ℕ → Bool) (v : View) (end d i : ℕ) → first_wrong f places v end d i ≡ none → i ≤ end → end - i ≤ f → Nests v i end d
+sound : (f : ℕ) (places : ℕ → Bool) (v : View) (end d i : ℕ) → first_wrong f places v end d i ≡ None → i ≤ end → end - i ≤ f → Nests v i end d
 unfolding first_wrong
 sound zero places v end d i e l h = over {i = i} {j = end} (omega arith)
 sound (suc f) places v end d i e l h =
@@ -175,7 +175,7 @@ sound (suc f) places v end d i e l h =
     (λ w q. sound f places v end d (v.after i) q w.to (omega arith))
 
 -- rows with nothing wrong nest
-pub accepted_nests : (places : ℕ → Bool) (v : View) (end d i : ℕ) → wrong_row_of places v end d i ≡ none → i ≤ end → Nests v i end d
+pub accepted_nests : (places : ℕ → Bool) (v : View) (end d i : ℕ) → wrong_row_of places v end d i ≡ None → i ≤ end → Nests v i end d
 unfolding wrong_row_of
 accepted_nests places v end d i e l = sound (end - i) places v end d i e l (omega arith)
 
@@ -257,9 +257,9 @@ parts_nest (pair k w t q g l r) h = nests_join g l
 
 complete_step : (places : ℕ → Bool) (v : View) (end d i : ℕ) (a : Bool) (r t : Option ℕ) → ltb i end ≡ a → Nests v i end d
     → (i < end → places i ≡ true)
-    → (i < end → r ≡ none)
-    → (i < end → t ≡ none)
-    → cond a (cond (row_fits_of places v end d i) (or_later r t) (some i)) none ≡ none
+    → (i < end → r ≡ None)
+    → (i < end → t ≡ None)
+    → cond a (cond (row_fits_of places v end d i) (or_later r t) (Some i)) None ≡ None
 complete_step places v end d i true r t e g q f h =
     let l = ltb-true i end e in
     rw (row_fits places v end d i g l (q l), f l) (h l)
@@ -267,7 +267,7 @@ complete_step places v end d i false r t e g q f h = refl
 
 -- rows that nest, and whose places are right, have nothing wrong
 pub complete : (f : ℕ) (places : ℕ → Bool) (v : View) (end d i : ℕ) → Nests v i end d → ((k : ℕ) → i ≤ k → k < end → places k ≡ true)
-    → first_wrong f places v end d i ≡ none
+    → first_wrong f places v end d i ≡ None
 unfolding first_wrong
 complete zero places v end d i g q = refl
 complete (suc f) places v end d i g q =
@@ -284,7 +284,7 @@ complete (suc f) places v end d i g q =
     (λ l. let w = nests_after g l in complete f places v end d (v.after i) (nests_rest g l) (λ k a b. q k (let z = w.up in omega arith) b))
 
 pub nested_accepted : (places : ℕ → Bool) (v : View) (end d i : ℕ) → Nests v i end d → ((k : ℕ) → i ≤ k → k < end → places k ≡ true)
-    → wrong_row_of places v end d i ≡ none
+    → wrong_row_of places v end d i ≡ None
 unfolding wrong_row_of
 nested_accepted places v end d i g q = complete (end - i) places v end d i g q
 

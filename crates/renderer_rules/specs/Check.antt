@@ -1,6 +1,5 @@
 -- Refusal 11: the first row that does not nest, or has a place that is wrong.
-use Rattle.std.specs.Prelude.{◌≡◌, ℕ, zero, suc, ◌+◌, ◌*◌, ◌-◌, Bool, true, false, cond, ◌&&◌, ◌||◌, List, [], ◌∷◌, length, ltb, leb, eqb}
-use Rattle.std.proofs.Math.Option.{Option, some, none}
+use Rattle.std.specs.Prelude.{◌≡◌, ℕ, zero, suc, ◌+◌, ◌*◌, ◌-◌, Bool, true, false, cond, ◌&&◌, ◌||◌, List, [], ◌∷◌, length, ltb, leb, eqb, Option, Some, None}
 use Rattle.rows.specs.Kinds.{GROUP, COMMENT, STR, ASCII, IF_WRAP, CALL, case_of}
 use Rattle.rows.specs.Places.{KIND, NUMBER, SECOND_NUMBER, SECOND, ORIGIN, START, SIZE, WIDTH, PLACES}
 use Rattle.rows.specs.Limits.{MAX_ROWS, MAX_DEPTH}
@@ -53,17 +52,17 @@ unfoldable pub row_fits_of : (ℕ → Bool) → View → ℕ → ℕ → ℕ →
 row_fits_of places v end d i = (ltb d MAX_DEPTH && (ltb i (v.after i) && leb (v.after i) end)) && (parts_fit v i (v.kind i) && places i)
 
 abbrev pub or_later : Option ℕ → Option ℕ → Option ℕ
-or_later none b = b
-or_later (some i) b = some i
+or_later None b = b
+or_later (Some i) b = Some i
 
 -- the first row from i up to `end` that is not right: row i, or one of its parts, or one after it; f rows at most (by `let`, so that nothing is
 -- computed where i is not before `end`)
 unfoldable pub first_wrong : ℕ → (ℕ → Bool) → View → ℕ → ℕ → ℕ → Option ℕ
-first_wrong zero places v end d i = none
+first_wrong zero places v end d i = None
 first_wrong (suc f) places v end d i =
     let later : Option ℕ = or_later (first_wrong f places v (v.after i) (suc d) (suc i)) (first_wrong f places v end d (v.after i)) in
-    let found : Option ℕ = cond (row_fits_of places v end d i) later (some i) in
-    cond (ltb i end) found none
+    let found : Option ℕ = cond (row_fits_of places v end d i) later (Some i) in
+    cond (ltb i end) found None
 
 unfoldable pub wrong_row_of : (ℕ → Bool) → View → ℕ → ℕ → ℕ → Option ℕ
 wrong_row_of places v end d i = first_wrong (end - i) places v end d i
@@ -104,9 +103,9 @@ places_fit source image store i =
 -- length / 9 rows, rounded down.)
 unfoldable pub wrong_place : List ℕ → List ℕ → List ℕ → ℕ → ℕ → Option ℕ
 wrong_place source image store from stop =
-    cond (leb stop MAX_ROWS && leb (stop * PLACES) (length store)) (wrong_row_of (places_fit source image store) (view_of store) stop 0 from) (some 0)
+    cond (leb stop MAX_ROWS && leb (stop * PLACES) (length store)) (wrong_row_of (places_fit source image store) (view_of store) stop 0 from) (Some 0)
 
 -- Where a `Call`'s second part is its end, a part that goes past that end is at fault, and not the `Call`.
 abbrev pub FaultOfPart : Type 0
 FaultOfPart =
-    wrong_place [] [] (11 ∷ 0 ∷ 1 ∷ 2 ∷ 2 ∷ 0 ∷ 0 ∷ 0 ∷ 0 ∷ 6 ∷ 0 ∷ 0 ∷ 0 ∷ 3 ∷ 0 ∷ 0 ∷ 0 ∷ 0 ∷ []) 0 2 ≡ some 1
+    wrong_place [] [] (11 ∷ 0 ∷ 1 ∷ 2 ∷ 2 ∷ 0 ∷ 0 ∷ 0 ∷ 0 ∷ 6 ∷ 0 ∷ 0 ∷ 0 ∷ 3 ∷ 0 ∷ 0 ∷ 0 ∷ 0 ∷ []) 0 2 ≡ Some 1

@@ -2,9 +2,10 @@
 ghost use Rattle.std.specs.Prelude.{◌≡◌, length};
 
 use crate::calls::ANSWERS;
-use crate::cases::replay_cases;
-use crate::step_lists::replay_lists;
-use stored_answers::report::{show_counts, show_end};
+use crate::cases::{self, replay_case};
+use crate::step_lists::{self, replay_list};
+use stored_answers::group::room;
+use stored_answers::report::{replay, show_counts, show_end};
 
 // Room for the rows of a list of calls.
 fn store_room() -> [u32; 16384]
@@ -13,51 +14,42 @@ fn store_room() -> [u32; 16384]
     [0; 16384]
 }
 
-fn marks_room() -> [u8; 4096]
-    ensures { 4096 ≡ length result }
-{
-    [0; 4096]
-}
-
-// Room for the joined texts of a list, and the output of its next call.
-fn text_room() -> [u8; 1114112]
-    ensures { 1114112 ≡ length result }
-{
-    [0; 1114112]
-}
-
-// How often each answer was given, by layout and by rendering calls.
-fn show_answers(rt: &impl Print, counts: &[usize]) {
-    if counts.len() < ANSWERS {
-        return;
-    }
-    show_counts(rt, b"layout calls", &counts[..ANSWERS]);
-    show_counts(rt, b"rendering calls", &counts[ANSWERS..]);
-}
-
-// Lists of calls.
-pub(crate) fn calls(rt: &impl Print, d: &[u8]) {
+// Lists of calls. The text's room is for the joined texts of a list, and the output of its next call.
+pub(crate) fn calls(rt: &impl Print, answers: &[u8]) {
     let mut store = store_room();
-    let mut marks = marks_room();
-    let mut text = text_room();
+    let mut marks: [u8; 4096] = room();
+    let mut text: [u8; 1114112] = room();
     let mut counts = [0usize; 32];
-    let c = replay_cases(rt, d, &mut store, &mut marks, &mut text, &mut counts);
-    show_answers(rt, &counts);
-    show_end(rt, b"lists", c);
+    let mut buffers = cases::Buffers {
+        store: &mut store,
+        marks: &mut marks,
+        text: &mut text,
+        counts: &mut counts,
+    };
+    let c = replay(rt, answers, |answers| replay_case(answers, &mut buffers));
+    show_counts(rt, "layout calls", &counts[..ANSWERS]);
+    show_counts(rt, "rendering calls", &counts[ANSWERS..]);
+    show_end(rt, "lists", c);
 }
 
 // Blanks, as long as a source may be: the spans and comments of every stored list fit them.
 fn blanks() -> [u8; 65536] {
-    [32; 65536]
+    [b' '; 65536]
 }
 
 // Lists of steps.
-pub(crate) fn steps(rt: &impl Print, d: &[u8]) {
+pub(crate) fn steps(rt: &impl Print, answers: &[u8]) {
     let source = blanks();
-    let mut image = [0u8; 4096];
-    let mut steps = [0u8; 4096];
+    let mut image: [u8; 4096] = room();
+    let mut steps: [u8; 4096] = room();
     let mut counts = [0usize; 18];
-    let c = replay_lists(rt, d, &source, &mut image, &mut steps, &mut counts);
-    show_counts(rt, b"lists of steps", &counts);
-    show_end(rt, b"lists of steps", c);
+    let mut buffers = step_lists::Buffers {
+        source: &source,
+        image: &mut image,
+        steps: &mut steps,
+        counts: &mut counts,
+    };
+    let c = replay(rt, answers, |answers| replay_list(answers, &mut buffers));
+    show_counts(rt, "lists of steps", &counts);
+    show_end(rt, "lists of steps", c);
 }

@@ -8,21 +8,13 @@ mod groups;
 mod states;
 mod step_lists;
 
-use std::rt::Files;
-use stored_answers::group::{read, room};
+use stored_answers::group::{ROOM, read, room};
 
-fn replay_calls(rt: &(impl Files + Print), room: &mut [u8]) {
-    let n = read(rt, b"calls", room);
-    groups::calls(rt, &room[..n]);
-}
-
-fn replay_steps(rt: &(impl Files + Print), room: &mut [u8]) {
-    let n = read(rt, b"steps", room);
-    groups::steps(rt, &room[..n]);
-}
-
+// kept: which groups there are is all that it says; a function over a table of them would be no plainer.
 fn main(rt: HostRuntime) {
-    let mut input = room();
-    replay_calls(&rt, &mut input);
-    replay_steps(&rt, &mut input);
+    let mut input: [u8; ROOM] = room();
+    let n = read(&rt, "calls", &mut input);
+    groups::calls(&rt, &input[..n]);
+    let n = read(&rt, "steps", &mut input);
+    groups::steps(&rt, &input[..n]);
 }

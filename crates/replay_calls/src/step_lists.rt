@@ -1,157 +1,91 @@
 // The stored lists of steps. The bytes of an image and of its steps are shown as text where they differ.
-use stored_answers::found::{Found, bytes_found, first, unless};
-use stored_answers::numbers::{end, forward, long, past, short, start};
-use stored_answers::report::{Compared, count, told};
-use writer::{Wrote, steps_of, write_image};
+use stored_answers::difference::{Difference, bytes_found, unless};
+use stored_answers::numbers::Reader;
+use stored_answers::report::count;
+use writer::{steps_of, write_image};
 
-// Offset in an answer, behind the number: the place, or the image's length before the image.
-const PLACE: usize = 2;
-// And where a refusal ends.
-const REFUSED: usize = 6;
-
-// Where a list's answer ends, and the first difference.
-#[derive(Clone, Copy)]
-struct Replayed {
-    next: usize,
-    found: Found,
-}
-
-// Where the answer at `at` ends.
-fn answer_end(d: &[u8], at: usize) -> usize {
-    if short(d, at) != 0 {
-        return past(at, REFUSED);
-    }
-    past(past(at, REFUSED), long(d, past(at, PLACE)))
-}
-
-fn wide(x: u8) -> usize {
-    x as usize
+// A source that each list fits, room for an image and for its steps, and how often each answer was given.
+#[derive(Drop)]
+pub(crate) struct Buffers<'l, 'i, 's, 'c> {
+    pub source: &'l [u8],
+    pub image: &'i mut [u8],
+    pub steps: &'s mut [u8],
+    pub counts: &'c mut [usize],
 }
 
 // An image of so many bytes in an output with one byte less.
-fn no_room_found(steps: &[u8], image: &mut [u8], bytes: usize) -> Found {
+fn no_room_found(list: &[u8], image: &mut [u8], bytes: usize) -> Result<(), Difference> {
     if bytes == 0 {
-        return Found::Text;
+        return Err(Difference::Text);
     }
-    if image.len() < bytes {
-        return Found::Room;
-    }
-    match write_image(steps, &mut image[..bytes - 1]) {
-        Wrote::Refused(n, p) => first(
-            unless(wide(n) == 17, Found::Number),
-            unless(p == bytes, Found::Place),
-        ),
-        Wrote::Bytes(n) => Found::Number,
-    }
-}
-
-// The steps of an image, of which there are n bytes, against the list stored at `at`.
-fn list_found(d: &[u8], at: usize, steps: &[u8], n: usize) -> Found {
-    if steps.len() < n {
-        return Found::Room;
-    }
-    bytes_found(&steps[..n], d, at, Found::Text)
-}
-
-// The image, which the source fits, back to the list stored at `at`.
-fn back_found(d: &[u8], at: usize, source: &[u8], image: &[u8], steps: &mut [u8]) -> Found {
-    match steps_of(source, image, steps) {
-        Wrote::Refused(n, p) => Found::Text,
-        Wrote::Bytes(n) => list_found(d, at, steps, n),
+    let Some(out) = image.get_mut(..bytes - 1) else {
+        return Err(Difference::Room);
+    };
+    match write_image(list, out) {
+        Ok(_) => Err(Difference::Number),
+        Err(refused) => {
+            unless(refused.number() == 17, Difference::Number)?;
+            unless(refused.place == bytes, Difference::Place)
+        }
     }
 }
 
-// An image of so many bytes against the answer at `to`, and back to the list at `at`.
-fn image_found(
-    d: &[u8],
-    at: usize,
-    to: usize,
+// The image, which the source fits, back to the list that is stored.
+fn back_found(
+    mut list: Reader,
     source: &[u8],
     image: &[u8],
+    steps: &mut [u8],
+) -> Result<(), Difference> {
+    let Ok(n) = steps_of(source, image, steps) else {
+        return Err(Difference::Text);
+    };
+    match steps.get(..n) {
+        Some(steps) => bytes_found(steps, &mut list, Difference::Text),
+        None => Err(Difference::Room),
+    }
+}
+
+// An image of so many bytes against the one that is stored, and back to the list.
+fn image_found(
+    list: Reader,
+    mut image: Reader,
+    number: usize,
     bytes: usize,
-    steps: &mut [u8],
-) -> Found {
-    if image.len() < bytes {
-        return Found::Room;
+    buffers: &mut Buffers,
+) -> Result<(), Difference> {
+    let source = buffers.source;
+    let room = &mut *buffers.image;
+    let steps = &mut *buffers.steps;
+    let Some(written) = room.get_mut(..bytes) else {
+        return Err(Difference::Room);
+    };
+    unless(number == 0, Difference::Number)?;
+    bytes_found(written, &mut image, Difference::Text)?;
+    back_found(list, source, written, steps)
+}
+
+// The next list: its steps, and the number and the place, or 0 and the image with its length before it.
+pub(crate) fn replay_list(answers: &mut Reader, buffers: &mut Buffers) -> Result<(), Difference> {
+    let list = *answers;
+    let steps = answers.block();
+    let number = answers.short();
+    let image = *answers;
+    let place = answers.long();
+    if number == 0 {
+        answers.skip(place);
     }
-    let number = unless(short(d, to) == 0, Found::Number);
-    let same = bytes_found(&image[..bytes], d, past(to, PLACE), Found::Text);
-    let back = back_found(d, at, source, &image[..bytes], steps);
-    first(number, first(same, back))
-}
-
-// A refusal against the answer at `to`.
-fn refusal_found(d: &[u8], to: usize, number: usize, place: usize) -> Found {
-    first(
-        unless(short(d, to) == number, Found::Number),
-        unless(long(d, past(to, PLACE)) == place, Found::Place),
-    )
-}
-
-// What the list at `at` is answered; its answer is stored at `to`.
-fn answer_found(
-    d: &[u8],
-    at: usize,
-    to: usize,
-    list: &[u8],
-    source: &[u8],
-    image: &mut [u8],
-    steps: &mut [u8],
-    counts: &mut [usize],
-) -> Found {
-    match write_image(list, image) {
-        Wrote::Refused(n, p) => {
-            count(counts, wide(n));
-            refusal_found(d, to, wide(n), p)
+    match write_image(steps, buffers.image) {
+        Err(refused) => {
+            let refusal = usize::from(refused.number());
+            count(buffers.counts, refusal);
+            unless(number == refusal, Difference::Number)?;
+            unless(place == refused.place, Difference::Place)
         }
-        Wrote::Bytes(n) => {
-            count(counts, 0);
-            let whole = image_found(d, at, to, source, image, n, steps);
-            first(whole, no_room_found(list, image, n))
+        Ok(bytes) => {
+            count(buffers.counts, 0);
+            image_found(list, image, number, bytes, buffers)?;
+            no_room_found(steps, buffers.image, bytes)
         }
-    }
-}
-
-// The list stored at `at`.
-fn replay_list(
-    d: &[u8],
-    at: usize,
-    source: &[u8],
-    image: &mut [u8],
-    steps: &mut [u8],
-    counts: &mut [usize],
-) -> Replayed {
-    let from = start(d, at);
-    let to = end(d, from, long(d, at));
-    let found = answer_found(d, at, to, &d[from..to], source, image, steps, counts);
-    Replayed {
-        next: answer_end(d, to),
-        found: found,
-    }
-}
-
-// All lists; each that differs is shown.
-pub(crate) fn replay_lists(
-    rt: &impl Print,
-    d: &[u8],
-    source: &[u8],
-    image: &mut [u8],
-    steps: &mut [u8],
-    counts: &mut [usize],
-) -> Compared {
-    let mut at: usize = 0;
-    let mut cases: usize = 0;
-    let mut differ: usize = 0;
-    while at < d.len() {
-        let l = replay_list(d, at, source, image, steps, counts);
-        let found = l.found;
-        cases += 1;
-        differ += told(rt, cases, found);
-        at = forward(at, l.next);
-    }
-    Compared {
-        cases: cases,
-        differ: differ,
-        cut: d.len() < at,
     }
 }

@@ -1,115 +1,88 @@
 // The calls for a stored batch: with more room than it needs, with just enough, and with one number or byte less.
 use crate::buffers::{OUTPUT, TABLE, count_files, new_output, new_table, table_found, texts_found};
-use crate::due::{Due, answer_found, number_of, refusal};
+use crate::due::{Due, answer_found, refusal};
 use batch::{Batch, format_batch};
 use file::FileChoice;
-use stored_answers::found::{Found, first};
-use stored_answers::report::count;
+use refusals::Refused;
+use stored_answers::difference::Difference;
+use stored_answers::report::{count, number_of};
 
 // Refuses a table or an output that is too small.
 const NO_ROOM: usize = 19;
 
+// What is formatted, and how.
+#[derive(Clone, Copy)]
+pub(crate) struct Asked<'a> {
+    pub frames: &'a [u8],
+    pub choice: FileChoice,
+}
+
+// How often each answer was given, to files and to batches.
+#[derive(Drop)]
+pub(crate) struct Counts<'a> {
+    pub files: &'a mut [usize],
+    pub batches: &'a mut [usize],
+}
+
 // An answer with table and output against what is due.
 fn call_found(
-    d: &[u8],
     due: Due,
-    answer: Batch,
+    answer: Result<Batch, Refused>,
     table: &[u32; TABLE],
     output: &[u8; OUTPUT],
-) -> Found {
-    let left = first(table_found(d, due, table), texts_found(d, due, output));
-    first(answer_found(answer, due), left)
+) -> Result<(), Difference> {
+    answer_found(answer, due)?;
+    table_found(due, table)?;
+    texts_found(due, output)
 }
 
-// A call whose answers are counted.
-fn counted(
-    frames: &[u8],
-    table: &mut [u32],
-    output: &mut [u8],
-    choice: FileChoice,
-    files: &mut [usize],
-    batches: &mut [usize],
-) -> Batch {
-    let answer = format_batch(frames, table, output, choice);
-    count(batches, number_of(answer));
-    count_files(files, table);
-    answer
-}
-
-// The call with more room.
-fn ample_found(
-    d: &[u8],
-    frames: &[u8],
-    choice: FileChoice,
-    due: Due,
-    files: &mut [usize],
-    batches: &mut [usize],
-) -> Found {
+// The call with more room, whose answers are counted.
+fn ample_found(asked: Asked, due: Due, counts: &mut Counts) -> Result<(), Difference> {
     let mut table = new_table();
     let mut output = new_output();
-    let answer = counted(frames, &mut table, &mut output, choice, files, batches);
-    call_found(d, due, answer, &table, &output)
+    let answer = format_batch(asked.frames, &mut table, &mut output, asked.choice);
+    count(counts.batches, number_of(answer));
+    count_files(counts.files, &table);
+    call_found(due, answer, &table, &output)
 }
 
 // The call with so many numbers of table and bytes of output.
-fn lent_found(
-    d: &[u8],
-    frames: &[u8],
-    choice: FileChoice,
-    due: Due,
-    cells: usize,
-    bytes: usize,
-) -> Found {
+fn lent_found(asked: Asked, due: Due, cells: usize, bytes: usize) -> Result<(), Difference> {
     let mut table = new_table();
     let mut output = new_output();
-    if table.len() < cells {
-        return Found::Room;
-    }
-    if output.len() < bytes {
-        return Found::Room;
-    }
-    let answer = format_batch(frames, &mut table[..cells], &mut output[..bytes], choice);
-    call_found(d, due, answer, &table, &output)
+    let (Some(lent_table), Some(lent_output)) = (table.get_mut(..cells), output.get_mut(..bytes))
+    else {
+        return Err(Difference::Room);
+    };
+    let answer = format_batch(asked.frames, lent_table, lent_output, asked.choice);
+    call_found(due, answer, &table, &output)
 }
 
 // A table with a number less, whatever the output.
-fn short_table_found(d: &[u8], frames: &[u8], choice: FileChoice, due: Due) -> Found {
+fn short_table_found(asked: Asked, due: Due) -> Result<(), Difference> {
     let cells = due.cells;
     if cells == 0 {
-        return Found::Same;
+        return Ok(());
     }
-    let less = cells - 1;
-    let refused = refusal(NO_ROOM, cells, 0);
-    first(
-        lent_found(d, frames, choice, refused, less, OUTPUT),
-        lent_found(d, frames, choice, refused, less, 0),
-    )
+    let refused = refusal(NO_ROOM, cells, due.table);
+    lent_found(asked, refused, cells - 1, OUTPUT)?;
+    lent_found(asked, refused, cells - 1, 0)
 }
 
 // An output with a byte less.
-fn short_output_found(d: &[u8], frames: &[u8], choice: FileChoice, due: Due) -> Found {
+fn short_output_found(asked: Asked, due: Due) -> Result<(), Difference> {
     let bytes = due.bytes;
     if bytes == 0 {
-        return Found::Same;
+        return Ok(());
     }
-    let refused = refusal(NO_ROOM, bytes, 0);
-    lent_found(d, frames, choice, refused, due.cells, bytes - 1)
+    let refused = refusal(NO_ROOM, bytes, due.table);
+    lent_found(asked, refused, due.cells, bytes - 1)
 }
 
 // All calls.
-pub(crate) fn calls_found(
-    d: &[u8],
-    frames: &[u8],
-    choice: FileChoice,
-    due: Due,
-    files: &mut [usize],
-    batches: &mut [usize],
-) -> Found {
-    let ample = ample_found(d, frames, choice, due, files, batches);
-    let just = lent_found(d, frames, choice, due, due.cells, due.bytes);
-    let short = first(
-        short_table_found(d, frames, choice, due),
-        short_output_found(d, frames, choice, due),
-    );
-    first(ample, first(just, short))
+pub(crate) fn calls_found(asked: Asked, due: Due, counts: &mut Counts) -> Result<(), Difference> {
+    ample_found(asked, due, counts)?;
+    lent_found(asked, due, due.cells, due.bytes)?;
+    short_table_found(asked, due)?;
+    short_output_found(asked, due)
 }

@@ -2,8 +2,9 @@
 ghost use Rattle.std.specs.Prelude.{◌≡◌, length};
 
 use crate::due::{CELLS, Due};
-use stored_answers::compare::{same_bytes, same_numbers};
-use stored_answers::found::{Found, first, unless};
+use stored_answers::compare::{Stored, is_next};
+use stored_answers::difference::{Difference, unless};
+use stored_answers::numbers::Reader;
 use stored_answers::report::count;
 
 // Room for every stored table, and for every stored text.
@@ -12,9 +13,9 @@ pub(crate) const TABLE: usize = 768;
 pub(crate) const OUTPUT: usize = 1024;
 
 // What a batch doesn't write: no number is as large, and no text has such a byte.
-const NO_NUMBER: u32 = 4294967295;
+const NO_NUMBER: u32 = u32::MAX;
 
-const NO_BYTE: u8 = 255;
+const NO_BYTE: u8 = u8::MAX;
 
 pub(crate) fn new_table() -> [u32; TABLE]
     ensures { 768 ≡ length result }
@@ -28,62 +29,38 @@ pub(crate) fn new_output() -> [u8; OUTPUT]
     [NO_BYTE; OUTPUT]
 }
 
-// Whether nothing was written.
-fn kept_numbers(b: &[u32]) -> bool {
-    let mut i: usize = 0;
-    while i < b.len() {
-        if b[i] != NO_NUMBER {
-            return false;
-        }
-        i += 1;
-    }
-    true
-}
-
-fn kept_bytes(b: &[u8]) -> bool {
-    let mut i: usize = 0;
-    while i < b.len() {
-        if b[i] != NO_BYTE {
-            return false;
-        }
-        i += 1;
-    }
-    true
-}
-
-// A table against what is due, and what is behind against a new one.
-pub(crate) fn table_found(d: &[u8], due: Due, table: &[u32]) -> Found {
-    let cells = due.cells;
-    if table.len() < cells {
-        return Found::Room;
-    }
-    first(
-        unless(same_numbers(&table[..cells], d, due.table), Found::Rows),
-        unless(kept_numbers(&table[cells..]), Found::Rows),
+// The first `size` of a buffer against what is stored, and what is behind against a new buffer's.
+fn buffer_found<T: Stored + PartialEq>(
+    buffer: &[T],
+    size: usize,
+    stored: Reader,
+    new: T,
+    what: Difference,
+) -> Result<(), Difference> {
+    let Some((used, rest)) = buffer.split_at_checked(size) else {
+        return Err(Difference::Room);
+    };
+    unless(
+        is_next(used, &stored) && rest.iter().all(|x| *x == new),
+        what,
     )
+}
+
+// A table against what is due.
+pub(crate) fn table_found(due: Due, table: &[u32]) -> Result<(), Difference> {
+    buffer_found(table, due.cells, due.table, NO_NUMBER, Difference::Rows)
 }
 
 // The same of an output.
-pub(crate) fn texts_found(d: &[u8], due: Due, output: &[u8]) -> Found {
-    let bytes = due.bytes;
-    if output.len() < bytes {
-        return Found::Room;
-    }
-    first(
-        unless(same_bytes(&output[..bytes], d, due.texts), Found::Text),
-        unless(kept_bytes(&output[bytes..]), Found::Text),
-    )
+pub(crate) fn texts_found(due: Due, output: &[u8]) -> Result<(), Difference> {
+    buffer_found(output, due.bytes, due.texts, NO_BYTE, Difference::Text)
 }
 
-fn wide(x: u32) -> usize {
-    x as usize
-}
-
-// Counts the answers to files; a row that wasn't written has a number that is not counted.
+// Counts the answers to files, which stand first in their rows; a row that wasn't written has a number that is not counted.
 pub(crate) fn count_files(counts: &mut [usize], table: &[u32]) {
-    let mut at: usize = 0;
-    while at < table.len() {
-        count(counts, wide(table[at]));
-        at += CELLS;
+    for row in table.chunks(CELLS) {
+        if let Some(number) = row.first() {
+            count(counts, *number as usize);
+        }
     }
 }

@@ -1,45 +1,37 @@
 // The groups of stored answers, each with the buffers that its replay needs.
-ghost use Rattle.std.specs.Prelude.{◌≡◌, length};
+use crate::batch_calls::Counts;
+use crate::batches::replay_batch;
+use crate::frames::{Buffers, replay_frame};
+use file::{marks, rows};
+use stored_answers::group::room;
+use stored_answers::report::{replay, show_counts, show_end};
 
-use crate::batches::replay_batches;
-use crate::frames::replay_frames;
-use stored_answers::report::{show_counts, show_end};
-
-// The program's 1,800 rows, its marks and its output.
-fn program_rows() -> [u32; 16200]
-    ensures { 16200 ≡ length result }
-{
-    [0; 16200]
-}
-
-fn program_marks() -> [u8; 1800]
-    ensures { 1800 ≡ length result }
-{
-    [0; 1800]
-}
-
-fn program_output() -> [u8; 65536]
-    ensures { 65536 ≡ length result }
-{
-    [0; 65536]
-}
-
-pub(crate) fn frames(rt: &impl Print, d: &[u8]) {
-    let mut store = program_rows();
-    let mut marks = program_marks();
-    let mut out = program_output();
+pub(crate) fn frames(rt: &impl Print, answers: &[u8]) {
+    let mut store = rows();
+    let mut marks = marks();
+    let mut out: [u8; 65536] = room();
     let mut counts = [0usize; 14];
-    let c = replay_frames(rt, d, &mut store, &mut marks, &mut out, &mut counts);
-    show_counts(rt, b"frames", &counts);
-    show_end(rt, b"frames", c);
+    let mut buffers = Buffers {
+        store: &mut store,
+        marks: &mut marks,
+        out: &mut out,
+        counts: &mut counts,
+    };
+    let c = replay(rt, answers, |answers| replay_frame(answers, &mut buffers));
+    show_counts(rt, "frames", &counts);
+    show_end(rt, "frames", c);
 }
 
 // Batches of files.
-pub(crate) fn batches(rt: &impl Print, d: &[u8]) {
+pub(crate) fn batches(rt: &impl Print, answers: &[u8]) {
     let mut files = [0usize; 16];
     let mut batches = [0usize; 20];
-    let c = replay_batches(rt, d, &mut files, &mut batches);
-    show_counts(rt, b"files", &files);
-    show_counts(rt, b"batches", &batches);
-    show_end(rt, b"batches", c);
+    let mut counts = Counts {
+        files: &mut files,
+        batches: &mut batches,
+    };
+    let c = replay(rt, answers, |answers| replay_batch(answers, &mut counts));
+    show_counts(rt, "files", &files);
+    show_counts(rt, "batches", &batches);
+    show_end(rt, "batches", c);
 }

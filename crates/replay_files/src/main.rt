@@ -5,7 +5,6 @@
 mod batch_calls;
 mod batches;
 mod buffers;
-mod clear;
 mod due;
 mod frames;
 mod groups;
@@ -15,21 +14,13 @@ mod pieces;
 mod stored;
 mod whole;
 
-use std::rt::Files;
-use stored_answers::group::{read, room};
+use stored_answers::group::{ROOM, read, room};
 
-fn replay_frames(rt: &(impl Files + Print), room: &mut [u8]) {
-    let n = read(rt, b"frames", room);
-    groups::frames(rt, &room[..n]);
-}
-
-fn replay_batches(rt: &(impl Files + Print), room: &mut [u8]) {
-    let n = read(rt, b"batches", room);
-    groups::batches(rt, &room[..n]);
-}
-
+// kept: which groups there are is all that it says; a function over a table of them would be no plainer.
 fn main(rt: HostRuntime) {
-    let mut input = room();
-    replay_frames(&rt, &mut input);
-    replay_batches(&rt, &mut input);
+    let mut input: [u8; ROOM] = room();
+    let n = read(&rt, "frames", &mut input);
+    groups::frames(&rt, &input[..n]);
+    let n = read(&rt, "batches", &mut input);
+    groups::batches(&rt, &input[..n]);
 }

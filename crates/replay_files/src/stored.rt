@@ -1,126 +1,154 @@
-// The stored answer to a frame, which starts with the refusal number and the place; and buffers against it.
-ghost use Rattle.std.specs.Prelude.{◌<◌};
-
+// The stored answer to a frame; and what a run gave against it.
 use crate::hash::{of_bytes, of_numbers};
 use crate::line::line_found;
-use stored_answers::found::{Found, bytes_found, first, unless};
-use stored_answers::numbers::{byte, eight, long, past, short};
+use file::Text;
+use rows::places::PLACES;
+use rows::units::Bytes;
+use stored_answers::difference::{Difference, bytes_found, unless};
+use stored_answers::numbers::Reader;
 
-// Offsets in an answer.
-const ROWS: usize = 9;
-
-const ROWS_HASH: usize = 13;
-
-const NUMBERS: usize = 17;
-
-const MARKS_HASH: usize = 21;
-
-const LEFT: usize = 25;
-
-const DECLARATIONS: usize = 29;
-
-pub(crate) const STOPS: usize = 31;
 // How many bytes a stop has.
-pub(crate) const STOP: usize = 16;
+const STOP: usize = 16;
 
-// What a run gave: how many rows, group numbers, comments left and bytes of text.
+// The refusal number and the place; and what is stored of a frame that is accepted.
 #[derive(Clone, Copy)]
-pub(crate) struct Output {
-    pub rows: usize,
-    pub numbers: usize,
-    pub left: usize,
-    pub bytes: usize,
+pub(crate) struct Stored<'a> {
+    pub number: usize,
+    pub place: usize,
+    pub accepted: Option<Accepted<'a>>,
 }
 
-// How many declarations there are.
-pub(crate) fn declarations(d: &[u8], at: usize) -> usize
-    ensures { result < 65536 }
-{
-    short(d, past(at, DECLARATIONS))
+// How many rows there are, how many group numbers and comments left; the hashes of rows and marks; how many declarations; and where the states
+// at the stops and the text with its length are stored.
+#[derive(Clone, Copy)]
+pub(crate) struct Accepted<'a> {
+    rows: usize,
+    rows_hash: usize,
+    numbers: usize,
+    marks_hash: usize,
+    left: usize,
+    pub declarations: usize,
+    pub stops: Reader<'a>,
+    text: Reader<'a>,
 }
 
-// Where the text's length is stored.
-fn text_at(d: &[u8], at: usize) -> usize {
-    past(past(at, STOPS), STOP * (declarations(d, at) + 1))
-}
-
-// Where the answer ends.
-pub(crate) fn answer_end(d: &[u8], at: usize) -> usize {
-    if byte(d, at) != 0 {
-        return past(at, ROWS);
+fn read_accepted<'a>(answers: &mut Reader<'a>) -> Accepted<'a> {
+    let rows = answers.long();
+    let rows_hash = answers.long();
+    let numbers = answers.long();
+    let marks_hash = answers.long();
+    let left = answers.long();
+    let declarations = answers.short();
+    let stops = *answers;
+    answers.skip(STOP * (declarations + 1));
+    let text = *answers;
+    let size = answers.long();
+    answers.skip(size);
+    Accepted {
+        rows,
+        rows_hash,
+        numbers,
+        marks_hash,
+        left,
+        declarations,
+        stops,
+        text,
     }
-    let text = text_at(d, at);
-    past(past(text, 4), long(d, text))
 }
 
-fn rows_found(d: &[u8], at: usize, store: &[u32], rows: usize) -> Found {
-    if store.len() / 9 < rows {
-        return Found::Rows;
+// The answer that comes next.
+pub(crate) fn read_stored<'a>(answers: &mut Reader<'a>) -> Stored<'a> {
+    let number = answers.byte();
+    let place = answers.eight();
+    Stored {
+        number,
+        place,
+        accepted: if number == 0 {
+            Some(read_accepted(answers))
+        } else {
+            None
+        },
     }
-    let cells = rows * 9;
-    let hash = of_numbers(&store[..cells]) as usize;
-    first(
-        unless(long(d, past(at, ROWS)) == rows, Found::Rows),
-        unless(long(d, past(at, ROWS_HASH)) == hash, Found::Rows),
-    )
 }
 
-fn marks_found(d: &[u8], at: usize, marks: &[u8], numbers: usize) -> Found {
-    if marks.len() < numbers {
-        return Found::Marks;
+impl Stored<'_> {
+    // A refusal against the one that is stored.
+    pub(crate) fn refusal_found(&self, number: usize, place: usize) -> Result<(), Difference> {
+        unless(self.number == number, Difference::Number)?;
+        unless(self.place == place, Difference::Place)
     }
-    let hash = of_bytes(&marks[..numbers]) as usize;
-    first(
-        unless(long(d, past(at, NUMBERS)) == numbers, Found::Marks),
-        unless(long(d, past(at, MARKS_HASH)) == hash, Found::Marks),
-    )
-}
 
-fn text_found(d: &[u8], at: usize, out: &[u8], bytes: usize) -> Found {
-    if out.len() < bytes {
-        return Found::Text;
+    // What the program writes, the first n bytes of its output: the text, or the line with number and place.
+    pub(crate) fn reply_found(&self, out: &[u8], n: usize) -> Result<(), Difference> {
+        let Some(reply) = out.get(..n) else {
+            return Err(Difference::Reply);
+        };
+        match self.accepted {
+            Some(accepted) => accepted.bytes_found(reply, Difference::Reply),
+            None => line_found(reply, self.number, self.place),
+        }
     }
-    bytes_found(&out[..bytes], d, text_at(d, at), Found::Text)
 }
 
-// What a whole run told, and its text, against the answer at `at`.
-pub(crate) fn told_found(d: &[u8], at: usize, out: &[u8], o: Output) -> Found {
-    let rows = unless(long(d, past(at, ROWS)) == o.rows, Found::Rows);
-    let numbers = unless(long(d, past(at, NUMBERS)) == o.numbers, Found::Marks);
-    let left = unless(long(d, past(at, LEFT)) == o.left, Found::Count);
-    let text = text_found(d, at, out, o.bytes);
-    first(first(rows, numbers), first(left, text))
-}
-
-// The text, or the line with its number and place, against the answer at `at`.
-fn written_found(d: &[u8], at: usize, b: &[u8]) -> Found {
-    let number = byte(d, at);
-    if number == 0 {
-        return bytes_found(b, d, text_at(d, at), Found::Reply);
+impl Accepted<'_> {
+    fn bytes_found(&self, bytes: &[u8], what: Difference) -> Result<(), Difference> {
+        let mut text = self.text;
+        bytes_found(bytes, &mut text, what)
     }
-    line_found(b, number, eight(d, past(at, 1)))
-}
 
-// What the program writes, the first n bytes of its output, against the answer at `at`.
-pub(crate) fn reply_found(d: &[u8], at: usize, out: &[u8], n: usize) -> Found {
-    if out.len() < n {
-        return Found::Reply;
+    fn text_found(&self, out: &[u8], bytes: Bytes) -> Result<(), Difference> {
+        let Some(text) = out.get(..bytes.0) else {
+            return Err(Difference::Text);
+        };
+        self.bytes_found(text, Difference::Text)
     }
-    written_found(d, at, &out[..n])
-}
 
-// What a run left in the buffers against the answer at `at`.
-pub(crate) fn output_found(
-    d: &[u8],
-    at: usize,
-    store: &[u32],
-    marks: &[u8],
-    out: &[u8],
-    o: Output,
-) -> Found {
-    let rows = rows_found(d, at, store, o.rows);
-    let numbers = marks_found(d, at, marks, o.numbers);
-    let left = unless(long(d, past(at, LEFT)) == o.left, Found::Count);
-    let text = text_found(d, at, out, o.bytes);
-    first(first(rows, numbers), first(left, text))
+    // What a run told of its output.
+    fn amounts_found(&self, text: Text) -> Result<(), Difference> {
+        unless(self.rows == text.rows, Difference::Rows)?;
+        unless(self.numbers == text.numbers, Difference::Marks)?;
+        unless(self.left == text.left, Difference::Count)
+    }
+
+    // What a whole run told, and its text.
+    pub(crate) fn told_found(&self, out: &[u8], text: Text) -> Result<(), Difference> {
+        self.amounts_found(text)?;
+        self.text_found(out, text.bytes)
+    }
+
+    fn rows_found(&self, store: &[u32], rows: usize) -> Result<(), Difference> {
+        if store.len() / PLACES < rows {
+            return Err(Difference::Rows);
+        }
+        let hash = of_numbers(&store[..rows * PLACES]) as usize;
+        unless(
+            self.rows == rows && self.rows_hash == hash,
+            Difference::Rows,
+        )
+    }
+
+    fn marks_found(&self, marks: &[u8], numbers: usize) -> Result<(), Difference> {
+        let Some(used) = marks.get(..numbers) else {
+            return Err(Difference::Marks);
+        };
+        let hash = of_bytes(used) as usize;
+        unless(
+            self.numbers == numbers && self.marks_hash == hash,
+            Difference::Marks,
+        )
+    }
+
+    // What a run left in the buffers.
+    pub(crate) fn output_found(
+        &self,
+        store: &[u32],
+        marks: &[u8],
+        out: &[u8],
+        text: Text,
+    ) -> Result<(), Difference> {
+        self.rows_found(store, text.rows)?;
+        self.marks_found(marks, text.numbers)?;
+        unless(self.left == text.left, Difference::Count)?;
+        self.text_found(out, text.bytes)
+    }
 }

@@ -1,40 +1,35 @@
 // How far the answers are compared.
-use stored_answers::found::{Found, unless};
-use stored_answers::numbers::past;
-use stored_answers::report::told;
+use stored_answers::difference::{Difference, unless};
+use stored_answers::numbers::{Reader, past};
+use stored_answers::report::{Compared, told};
 
-// Where the next answer is stored, how many were compared, and how many of them differ.
-#[derive(Clone, Copy)]
-pub(crate) struct Run {
-    pub at: usize,
-    pub cases: usize,
-    pub differ: usize,
+// The answers from the next on, and what was compared of those before.
+#[derive(Drop)]
+pub(crate) struct Run<'a> {
+    pub answers: Reader<'a>,
+    compared: Compared,
 }
 
-// Before the first answer, which is stored at `at`.
-pub(crate) fn begin(at: usize) -> Run {
-    Run {
-        at: at,
-        cases: 0,
-        differ: 0,
+impl<'a> Run<'a> {
+    pub(crate) fn new(answers: Reader<'a>) -> Run<'a> {
+        Run {
+            answers,
+            compared: Compared::default(),
+        }
     }
-}
 
-// After one more, of so many bytes; it is shown if it differs.
-pub(crate) fn after(rt: &impl Print, run: Run, bytes: usize, same: bool) -> Run {
-    let case = past(run.cases, 1);
-    Run {
-        at: past(run.at, bytes),
-        cases: case,
-        differ: past(run.differ, told(rt, case, unless(same, Found::Text))),
+    // One more was compared; it is shown if it differs.
+    pub(crate) fn compared(&mut self, rt: &impl Print, same: bool) {
+        let case = past(self.compared.cases, 1);
+        let differs = told(rt, case, unless(same, Difference::Text));
+        self.compared.cases = case;
+        self.compared.differ = past(self.compared.differ, differs);
     }
-}
 
-// The same run, whose next answer is stored at `at`.
-pub(crate) fn moved(run: Run, at: usize) -> Run {
-    Run {
-        at: at,
-        cases: run.cases,
-        differ: run.differ,
+    pub(crate) fn end(&self) -> Compared {
+        Compared {
+            cut: self.answers.is_cut(),
+            ..self.compared
+        }
     }
 }

@@ -1,7 +1,7 @@
 -- What is held after files: each is counted or refused.
 -- Assumes nothing.
 use mathlib.Core.Path.{◌≡◌, ap, ap₂, ◌∙◌}
-use mathlib.Core.Option.{Option, none, some}
+use Rattle.std.specs.Prelude.{Option, None, Some}
 use mathlib.Core.List.{List, [], ◌∷◌}
 use Prim.Native.Nat.{ℕ, suc, ◌+◌, ◌-◌, ◌≤◌}
 use native.Mathlib.Nat.{zero-add}
@@ -27,8 +27,8 @@ counted = tallied.counted refusal_of figures_in
 
 -- no more are counted than there are
 few_with : (o : Option Refusal) (x : File) (ys : List File) (k : ℕ) → length ys ≤ k → length (unless o ys (x ∷ ys)) ≤ suc k
-few_with (some r) x ys k h = omega arith
-few_with none x ys k h = omega arith
+few_with (Some r) x ys k h = omega arith
+few_with None x ys k h = omega arith
 
 few : (xs : List File) (t : Tallies) → length (counted t xs) ≤ length xs
 unfolding tallied.counted
@@ -49,13 +49,13 @@ account_with : (o : Option Refusal) (p : Progress) (x : File) (xs : List File) �
     after_files (progress_by p (answer_by o (count_result (figures_in x) p.tallies))) xs
     ≡ make (p.files + suc (length xs)) (p.refused + (suc (length xs) - length (unless o (counted u xs) (x ∷ counted u xs))))
     (totals refusal_of figures_in u xs)
-account_with (some r) p x xs on rest =
+account_with (Some r) p x xs on rest =
     let t = p.tallies in
     let h : length (counted t xs) ≤ length xs = rest t in
     let n : p.files + 1 + length xs ≡ p.files + suc (length xs) = omega arith in
     let m : p.refused + 1 + (length xs - length (counted t xs)) ≡ p.refused + (suc (length xs) - length (counted t xs)) = omega arith in
     on (make (p.files + 1) (p.refused + 1) t) ∙ ap₂ (λ (a b : ℕ). make a b (totals refusal_of figures_in t xs)) n m
-account_with none p x xs on rest =
+account_with None p x xs on rest =
     let t = added (figures_in x) p.tallies in
     let n : p.files + 1 + length xs ≡ p.files + suc (length xs) = omega arith in
     let m : p.refused + (length xs - length (counted t xs)) ≡ p.refused + (suc (length xs) - suc (length (counted t xs))) = omega arith in

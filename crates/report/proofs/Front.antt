@@ -12,6 +12,9 @@ use lib.Seq.{take_all}
 use Rattle.image.specs.Limits.{MAX_SOURCE, MAX_BODY}
 use Rattle.image.specs.Read.{Read, bad, Image, header, read_image, source_fits, read_all, outcome}
 use Rattle.image.proofs.Accepted.{headed}
+use Rattle.refusals.specs.Reasons.{number_of}
+use Rattle.refusals.specs.declared.Refused.{Refused}
+use Rattle.refusals.specs.declared.Reason.TheVariants as reason
 use Rattle.text.specs.Utf8.{prefix, well_formed}
 use Rattle.tallies.specs.declared.Tallies.{Tallies}
 use Rattle.figures.specs.Figures.{count_answer}
@@ -19,9 +22,10 @@ use Rattle.figures.proofs.Counting.{check_refused}
 use Rattle.report.specs.Front.{SOURCE_KEPT, IMAGE_KEPT, FrontIsEnough}
 
 -- files that the reader refuses alike are answered alike
-refused_alike : (s b s2 b2 : List ℕ) (t : Tallies) (n p : ℕ) → read_all s b ≡ bad n p → read_all s2 b2 ≡ bad n p → count_answer s b t ≡ count_answer s2 b2 t
-refused_alike s b s2 b2 t n p e f =
-    sym (check_refused s b t n p (ap outcome e)) ∙ check_refused s2 b2 t n p (ap outcome f)
+refused_alike : (s b s2 b2 : List ℕ) (t : Tallies) (w : Refused) → read_all s b ≡ bad (number_of w.reason) w.place
+    → read_all s2 b2 ≡ bad (number_of w.reason) w.place
+    → count_answer s b t ≡ count_answer s2 b2 t
+refused_alike s b s2 b2 t w e f = sym (check_refused s b t w (ap outcome e)) ∙ check_refused s2 b2 t w (ap outcome f)
 
 -- ---- a source that is too long
 too_long : (s b : List ℕ) → MAX_SOURCE < length s → read_all s b ≡ bad 1 0
@@ -30,7 +34,7 @@ too_long s b h = rw (lt-leb (length s) MAX_SOURCE h)
 
 long_source : (s b b2 : List ℕ) (t : Tallies) → SOURCE_KEPT < length s → count_answer (take SOURCE_KEPT s) b2 t ≡ count_answer s b t
 long_source s b b2 t h =
-    refused_alike (take SOURCE_KEPT s) b2 s b t 1 0 (too_long (take SOURCE_KEPT s) b2 (omega (arith, length-take SOURCE_KEPT s)))
+    refused_alike (take SOURCE_KEPT s) b2 s b t (record { reason = reason.SourceTooLong; place = 0 }) (too_long (take SOURCE_KEPT s) b2 (omega (arith, length-take SOURCE_KEPT s)))
     (too_long s b (omega arith))
 
 -- ---- an image that is too long
@@ -51,9 +55,9 @@ sourced s b h = rw (no_header b h)
 
 alike_with : (fits formed : Bool) (q : ℕ) (s b b2 : List ℕ) (t : Tallies) → read_all s b ≡ Sourced fits formed q → read_all s b2 ≡ Sourced fits formed q
     → count_answer s b t ≡ count_answer s b2 t
-alike_with false formed q s b b2 t e f = refused_alike s b s b2 t 1 0 e f
-alike_with true false q s b b2 t e f = refused_alike s b s b2 t 2 q e f
-alike_with true true q s b b2 t e f = refused_alike s b s b2 t 3 0 e f
+alike_with false formed q s b b2 t e f = refused_alike s b s b2 t (record { reason = reason.SourceTooLong; place = 0 }) e f
+alike_with true false q s b b2 t e f = refused_alike s b s b2 t (record { reason = reason.SourceNotUtf8; place = q }) e f
+alike_with true true q s b b2 t e f = refused_alike s b s b2 t (record { reason = reason.Header; place = 0 }) e f
 
 long_image : (s b : List ℕ) (t : Tallies) → IMAGE_KEPT < length b → count_answer s (take IMAGE_KEPT b) t ≡ count_answer s b t
 long_image s b t h =

@@ -1,14 +1,13 @@
 -- What the report makes of its files, one after another: the line of each, and what it holds after them. proofs/Accounts.antt proves the claim at
 -- the end.
-use Rattle.std.specs.Prelude.{◌≡◌, Bool, true, false, List, [], ◌∷◌, ℕ, ◌+◌, ◌-◌, ◌≤◌, ◌<◌, length, take}
+use Rattle.std.specs.Prelude.{◌≡◌, Bool, true, false, List, [], ◌∷◌, ℕ, ◌+◌, ◌-◌, ◌≤◌, ◌<◌, length, take, Option, None, Some, Result, Ok, Err}
 use Rattle.refusals.specs.Answers.{Answer, refused, accepted}
 use Rattle.tallies.specs.Tallies.{fresh_tallies}
 use Rattle.figures.specs.Figures.{CountResult, count_answer}
 use Rattle.figures.specs.Order.{File, counted_files, sums_of}
-use Rattle.report_lines.specs.Table.{file_line, refused_file_line, ends_inside_line, Writes}
+use Rattle.report_lines.specs.Table.{file_line, refused_file_line, ends_inside_line}
 use Rattle.feed.specs.Input.{source_length, image_length}
-use Rattle.feed.specs.declared.Came.{Came}
-use Rattle.feed.specs.declared.Came.TheVariants.{Nothing, Cut, Whole}
+use Rattle.feed.specs.declared.Cut.{Cut}
 use Rattle.report.specs.declared.progress.Progress.{Progress}
 use Rattle.report.specs.declared.progress.Turn.{Turn}
 use Rattle.report.specs.declared.Ended.{Ended}
@@ -52,34 +51,33 @@ module _ (lengths source image : List ℕ) (p : Progress) where
   answer_in = answer_to p (source_in lengths source) (image_in lengths image)
 
   -- "a line for each file; where the input ends inside a frame .. `the input ends inside file N`"
-  abbrev pub line_due : Came → List ℕ
-  line_due Nothing = []
-  line_due Cut = ends_inside_line (number_of p)
-  line_due Whole = line_by (number_of p) answer_in
+  abbrev pub line_due : Result (Option ℕ) Cut → List ℕ
+  line_due (Ok None) = []
+  line_due (Err cut) = ends_inside_line (number_of p)
+  line_due (Ok (Some bytes)) = line_by (number_of p) answer_in
 
   -- of a file that is cut, "What is there of it isn't counted", and it isn't refused either
-  abbrev pub progress_due : Came → Progress
-  progress_due Nothing = p
-  progress_due Cut = p
-  progress_due Whole = progress_by p answer_in
+  abbrev pub progress_due : Result (Option ℕ) Cut → Progress
+  progress_due (Ok None) = p
+  progress_due (Err cut) = p
+  progress_due (Ok (Some bytes)) = progress_by p answer_in
 
 -- no number of files wraps
 pub record GoesOn (p : Progress) : Type 0 where
   pub more : p.files < LAST_FILE
   pub among : p.refused ≤ p.files
 
--- a turn: its line is put at the front of the output, and what is held is due
-pub record Takes (line : List ℕ) (p : Progress) (out : List ℕ) (r : Turn) (out2 : List ℕ) : Type 0 where
-  pub writes : Writes line out r.bytes out2
+-- a turn: its line, and what is held, are due
+pub record Takes (text : List ℕ) (p : Progress) (r : Turn) : Type 0 where
+  pub line : r.line.bytes ≡ text
   pub progress : r.progress ≡ p
 
 -- by an answer, and by what came
-abbrev pub TakesBy : Progress → Answer CountResult → List ℕ → Turn → List ℕ → Type 0
-TakesBy p a out r out2 = Takes (line_by (number_of p) a) (progress_by p a) out r out2
+abbrev pub TakesBy : Progress → Answer CountResult → Turn → Type 0
+TakesBy p a r = Takes (line_by (number_of p) a) (progress_by p a) r
 
-abbrev pub TakesNext : List ℕ → List ℕ → List ℕ → Progress → Came → List ℕ → Turn → List ℕ → Type 0
-TakesNext lengths source image p came out r out2 =
-    Takes (line_due lengths source image p came) (progress_due lengths source image p came) out r out2
+abbrev pub TakesNext : List ℕ → List ℕ → List ℕ → Progress → Result (Option ℕ) Cut → Turn → Type 0
+TakesNext lengths source image p came r = Takes (line_due lengths source image p came) (progress_due lengths source image p came) r
 
 -- ---- all files
 -- one after another
@@ -88,16 +86,14 @@ after_files p [] = p
 after_files p (x ∷ xs) = after_files (progress_by p (answer_to p x.source x.image)) xs
 
 -- why no further file is read
-abbrev pub is_whole : Came → Bool
-is_whole Nothing = false
-is_whole Cut = false
-is_whole Whole = true
+abbrev pub is_whole : Result (Option ℕ) Cut → Bool
+is_whole (Ok None) = false
+is_whole (Err cut) = false
+is_whole (Ok (Some bytes)) = true
 
 pub data Stops (r : Ended) : Type 0 where
   -- no whole file came
   input_ended : is_whole r.came ≡ false → Stops r
-  -- a line could not be written
-  unwritten : r.written ≡ false → Stops r
   -- no further file can be numbered
   most_files : r.progress.files ≡ LAST_FILE → Stops r
 

@@ -1,9 +1,8 @@
 -- The lines of the report, as docs/REPORT.md has them: "Bytes of ASCII, each line ended by one newline". Numbers are "decimal, without
 -- leading zeros and without marks between the digits".
-use Rattle.std.specs.Prelude.{◌≡◌, List, [], ◌∷◌, ◌++◌, ℕ, ◌-◌, ◌≤◌, length, replicate}
+use Rattle.std.specs.Prelude.{List, [], ◌∷◌, ◌++◌, ℕ, ◌-◌, length, replicate}
 use Rattle.refusals.specs.Refusals.{Refusal}
 use Rattle.rows.specs.Ascii.{bytes}
-use Rattle.cut_rule.specs.Run.{write_front}
 use Rattle.tallies.specs.declared.Figures.{Figures}
 use Rattle.tallies.specs.declared.Fraction.{Fraction}
 use Rattle.tallies.specs.declared.Tallies.{Tallies}
@@ -91,14 +90,3 @@ last_lines t refused =
     ++ counted_line t.files
     ++ refused_count_line refused
     ++ fraction_line (reduced t.all.wrapped t.all.given)
-
--- The output that is lent for a line: eight cells of 20 digits, the blanks between and the newline are 168 bytes, and no line is longer. The last
--- lines together are 372 bytes at most.
-abbrev pub LINE_ROOM : ℕ
-LINE_ROOM = 512
-
--- n bytes are the text, at the front of the output; behind them it is as it was
-pub record Writes (text out : List ℕ) (n : ℕ) (out2 : List ℕ) : Type 0 where
-  pub bytes_due : n ≡ length text
-  pub output_left_of : out2 ≡ write_front text out
-  pub within : n ≤ LINE_ROOM

@@ -1,64 +1,52 @@
 // Cells of ten columns.
-ghost use Rattle.std.specs.Prelude.{◌≡◌, ◌∷◌, ◌+◌, ◌-◌, ◌≤◌, length};
+ghost use Rattle.std.specs.Prelude.{◌≡◌, ◌∷◌, ◌++◌, ◌+◌, ◌*◌, ◌≤◌, length};
 ghost use Rattle.lines.specs.Lines.{decimal};
-ghost use Rattle.report_lines.specs.Table.{BLANK, COLUMNS as TABLE_COLUMNS, cell, cells, in_order};
-ghost use Rattle.report_lines.specs.Put.{Puts, CELL_ROOM, FIGURES_ROOM};
+ghost use Rattle.report_lines.specs.Table.{BLANK, cell, cells, in_order};
 
-use lines::{DIGITS, put_decimal, put_text};
+use crate::{LINE_ROOM, Line};
+use itoa::Buffer;
+use lines::DIGITS;
 use tallies::Figures;
 
 const COLUMNS: usize = 10;
 
-// How many blanks are before a text of a size.
-fn blanks_before(size: usize) -> usize
-    ensures { result ≡ TABLE_COLUMNS - size }
+// Seven cells, each with a blank before it.
+pub(crate) const FIGURES_ROOM: usize = 147;
+
+// Appends a text, set to the right in ten columns. No text of a cell is longer than a number of 64 bits.
+#[tactic(auto, unfolding(crate::specs::Table::cell))]
+pub(crate) fn put_cell(line: &mut Line, text: &str)
+    requires text { length text.now ≤ DIGITS }
+    requires room { length line.old.bytes + DIGITS ≤ LINE_ROOM }
+    ensures bytes { line.new.bytes ≡ line.old.bytes ++ cell text.now }
+    ensures len { length line.new.bytes ≤ length line.old.bytes + DIGITS }
 {
-    if size < COLUMNS {
-        return COLUMNS - size;
+    for _ in text.len()..COLUMNS {
+        line.push(' ');
     }
-    0
+    line.push_str(text);
 }
 
-// Puts a text in ten columns, and returns where it ends. No text of a cell is longer than a number of 64 bits.
-pub(crate) fn put_cell(out: &mut [u8], at: usize, text: &[u8]) -> usize
-    requires { (length text.now ≤ CELL_ROOM) × (at + CELL_ROOM ≤ length out.old) }
-    ensures { Puts (cell text.now) CELL_ROOM out.old at result out.new }
+// Appends a number in ten columns.
+#[tactic(auto, using(lines::proofs::Lines::same_decimal, lines::proofs::Lines::decimal_short))]
+pub(crate) fn put_number(line: &mut Line, n: usize)
+    requires { length line.old.bytes + DIGITS ≤ LINE_ROOM }
+    ensures bytes { line.new.bytes ≡ line.old.bytes ++ cell (decimal n) }
+    ensures len { length line.new.bytes ≤ length line.old.bytes + DIGITS }
 {
-    let blanks = [b' '; COLUMNS];
-    let n = blanks_before(text.len());
-    let from = put_text(out, at, &blanks[..n]);
-    put_text(out, from, text)
+    put_cell(line, Buffer::new().format(n));
 }
 
-// Puts a number in ten columns, and returns where it ends.
-pub(crate) fn put_number(out: &mut [u8], at: usize, n: usize) -> usize
-    requires { at + CELL_ROOM ≤ length out.old }
-    ensures { Puts (cell (decimal n)) CELL_ROOM out.old at result out.new }
+// Appends seven figures, a blank before each.
+pub(crate) fn put_figures(line: &mut Line, f: Figures)
+    requires { length line.old.bytes + FIGURES_ROOM ≤ LINE_ROOM }
+    ensures bytes { line.new.bytes ≡ line.old.bytes ++ cells (in_order f) }
+    ensures len { length line.new.bytes ≤ length line.old.bytes + FIGURES_ROOM }
 {
-    let mut digits = [0u8; DIGITS];
-    let k = put_decimal(&mut digits, 0, n, DIGITS);
-    put_cell(out, at, &digits[..k])
-}
-
-// Puts a blank and a number in ten columns, and returns where it ends.
-fn put_next(out: &mut [u8], at: usize, n: usize) -> usize
-    requires { at + (CELL_ROOM + 1) ≤ length out.old }
-    ensures { Puts (BLANK ∷ cell (decimal n)) (CELL_ROOM + 1) out.old at result out.new }
-{
-    let from = put_text(out, at, b" ");
-    put_number(out, from, n)
-}
-
-// Puts seven figures behind the first cell of a line, and returns where they end.
-pub(crate) fn put_figures(out: &mut [u8], at: usize, f: Figures) -> usize
-    requires { at + FIGURES_ROOM ≤ length out.old }
-    ensures { Puts (cells (in_order f)) FIGURES_ROOM out.old at result out.new }
-{
-    let a = put_next(out, at, f.bytes);
-    let b = put_next(out, a, f.newlines);
-    let c = put_next(out, b, f.column);
-    let d = put_next(out, c, f.given);
-    let e = put_next(out, d, f.wrapped);
-    let g = put_next(out, e, f.placed);
-    put_next(out, g, f.left)
+    for n in [
+        f.bytes, f.newlines, f.column, f.given, f.wrapped, f.placed, f.left,
+    ] {
+        line.push_str(" ");
+        put_number(line, n);
+    }
 }

@@ -4,6 +4,8 @@ pub mod MustWrap
 pub mod Nested
 pub mod OriginText
 pub mod OwnWidth
+pub mod Part
 pub mod Sizes
+pub mod Stacked
 pub mod Table
 pub mod Widths

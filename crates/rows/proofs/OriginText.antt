@@ -1,10 +1,8 @@
 -- The text of an origin, by its number.
 -- Assumes nothing.
-use Prim.Native.Nat.{ℕ, zero, suc, ◌-◌, ◌≤◌}
-use native.Mathlib.Omega.{arith}
+use Prim.Native.Nat.{ℕ, zero, suc}
 use mathlib.Core.Path.{◌≡◌, refl}
 use mathlib.Core.List.{List, []}
-use lib.ListN.{length}
 use Rattle.rows.specs.Words.{words}
 use Rattle.rows.specs.Texts.{origin_text}
 
@@ -26,13 +24,3 @@ origin_none source image zero a b c = absurd (a refl)
 origin_none source image (suc zero) a b c = absurd (b refl)
 origin_none source image (suc (suc zero)) a b c = absurd (c refl)
 origin_none source image (suc (suc (suc n))) a b c = refl
-
--- an origin that has bytes, and is neither the source nor the image
-pub origin_rest : (source image : List ℕ) (origin start n : ℕ) → (n ≡ 0 → ⊥) → (origin ≡ 0 → ⊥) → (origin ≡ 1 → ⊥)
-    → n ≤ length (origin_text source image origin) - start
-    → origin_text source image origin ≡ words
-unfolding origin_text
-origin_rest source image zero start n m a b h = absurd (a refl)
-origin_rest source image (suc zero) start n m a b h = absurd (b refl)
-origin_rest source image (suc (suc zero)) start n m a b h = refl
-origin_rest source image (suc (suc (suc k))) start n m a b h = absurd (m (omega arith))

@@ -5,14 +5,10 @@ use Prim.Native.Nat.{ℕ}
 use mathlib.Core.Bool.{Bool, true, false, cond}
 use mathlib.Core.List.{List}
 use lib.Dec.{eqb}
-use borrow.Author.Tests.{ne_eqb}
 use Rattle.rows.specs.Places.{KIND, NUMBER, SECOND, AFTER}
 use Rattle.rows.specs.Node.{byte_columns}
 use Rattle.rows.specs.View.{view_of, cell, own_width}
 use Rattle.rows.proofs.Widths.{own_of}
-
-pub own_none : (s : List ℕ) (i k : ℕ) → (k ≡ 5 → ⊥) → (k ≡ 6 → ⊥) → (k ≡ 9 → ⊥) → 0 ≡ own_width s i k
-own_none s i k a b c = rw (ne_eqb k 5 a, ne_eqb k 6 b, ne_eqb k 9 c)
 
 -- the width of a `Str` is asked for once
 cond_twice : (t : Bool) (x y z : ℕ) → cond t (cond t x y) z ≡ cond t x z

@@ -5,6 +5,7 @@ pub mod Nesting
 pub mod Node
 pub mod Places
 pub mod Rows
+pub mod Stack
 pub mod Texts
 pub mod View
 pub mod Words

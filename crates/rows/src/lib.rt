@@ -5,6 +5,7 @@ pub mod kinds;
 pub mod limits;
 pub mod origins;
 pub mod places;
+pub mod stack;
 pub mod store;
 pub mod units;
 pub mod width;

@@ -1,22 +1,17 @@
 // The texts that rows refer to.
-ghost use Rattle.std.specs.Prelude.{◌≡◌, length};
+ghost use Rattle.std.specs.Prelude.{◌≡◌};
 ghost use Rattle.rows.specs.Texts.{origin_text};
 
-use crate::units::Bytes;
-use crate::words::WORDS_SIZE;
+use crate::words::WORDS;
 
-// The length of the text of an origin.
-pub fn origin_size(source: &[u8], image: &[u8], origin: usize) -> Bytes
-    ensures { result.0 ≡ length (origin_text source.now image.now origin) }
+// The text of an origin. A number that is none has no text.
+pub fn origin_text<'a>(source: &'a [u8], image: &'a [u8], origin: usize) -> &'a [u8]
+    ensures { result.now ≡ origin_text source.now image.now origin }
 {
-    if origin == 0 {
-        return Bytes(source.len());
+    match origin {
+        0 => source,
+        1 => image,
+        2 => &WORDS,
+        _ => &[],
     }
-    if origin == 1 {
-        return Bytes(image.len());
-    }
-    if origin == 2 {
-        return Bytes(WORDS_SIZE);
-    }
-    Bytes(0)
 }

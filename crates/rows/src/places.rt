@@ -1,3 +1,4 @@
+// kept: offsets in memory that C lends, nine numbers of 32 bits a row.
 // The places of a row: kind, number, second number, first row of the second part, row after the last descendant, text origin, text start,
 // text length, width.
 pub const KIND: usize = 0;

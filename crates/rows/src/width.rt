@@ -13,14 +13,10 @@ pub fn own_width(store: &[u32], row: usize, kind: usize) -> Columns
     requires { row * PLACES + WIDTH < length store.now }
     ensures { (result.0 ≡ own_width store.now row kind) × (result.0 < CELL_LIMIT) }
 {
-    if kind == STR {
-        return str_width(store, row);
+    match kind {
+        STR => str_width(store, row),
+        ASCII => ascii_columns(text_size(store, row)),
+        LINE_OR_SPACE => Columns(1),
+        _ => Columns(0),
     }
-    if kind == ASCII {
-        return ascii_columns(text_size(store, row));
-    }
-    if kind == LINE_OR_SPACE {
-        return Columns(1);
-    }
-    Columns(0)
 }

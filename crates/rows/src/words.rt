@@ -1,4 +1,5 @@
 // The fixed words, which are text origin 2.
+// kept: as bytes, which is what rows refer to and what a text in the output is.
 
 pub const WORDS_SIZE: usize = 178;
 

@@ -9,6 +9,7 @@ use crate::places::{AFTER, KIND};
 use crate::store::place;
 
 // Whether a row from `from` up to `to`, or one in an `Indent` there, wraps what encloses it.
+// kept: the next row is one on or behind a part, so that no range has the rows.
 pub fn must_wrap(store: &[u32], from: usize, to: usize) -> bool
     requires { Nested store.now from to }
     ensures { result ≡ must_wraps (nodes_at (view_of store.now) from to) }
@@ -16,10 +17,7 @@ pub fn must_wrap(store: &[u32], from: usize, to: usize) -> bool
     let mut row = from;
     while row < to {
         let kind = place(store, row, KIND);
-        if kind == WRAP_PARENT {
-            return true;
-        }
-        if kind == COMMENT {
+        if kind == WRAP_PARENT || kind == COMMENT {
             return true;
         }
         if kind == INDENT {
@@ -35,8 +33,5 @@ pub fn must_wrap(store: &[u32], from: usize, to: usize) -> bool
 pub fn is_wrapped(marks: &[u8], number: usize) -> bool
     ensures { result ≡ wrapped marks.now number }
 {
-    if number < marks.len() {
-        return marks[number] == 1;
-    }
-    false
+    number < marks.len() && marks[number] == 1
 }

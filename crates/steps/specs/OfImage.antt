@@ -1,6 +1,5 @@
 -- The steps of an image: refused by 1 to 7 where the reader refuses it, then by 17 where they are longer than the output.
-use Rattle.std.proofs.Math.Option.{Option}
-use Rattle.std.specs.Prelude.{List, [], ◌∷◌, ℕ, ltb, length}
+use Rattle.std.specs.Prelude.{List, [], ◌∷◌, ℕ, ltb, length, Option}
 use Rattle.std.proofs.lemmas.List.Edits.{sets}
 use Rattle.refusals.specs.Refusals.{Refusal, first, refuse_if, unless}
 use Rattle.refusals.specs.Answers.{Answer, answer_by}

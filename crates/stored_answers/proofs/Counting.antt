@@ -8,7 +8,7 @@ use native.Mathlib.Numerals.{add-one}
 use lib.ListN.{length, drop, get_or}
 use lib.Seq.{drop-cons, drop-length}
 use Rattle.stored_answers.specs.Numbers.{onward}
-use Rattle.stored_answers.specs.Found.{total_from, total}
+use Rattle.stored_answers.specs.Differences.{total_from, total}
 
 -- going on from place i with the sum n gives the whole sum
 pub record Counting (counts : List ℕ) (n i : ℕ) : Type 0 where

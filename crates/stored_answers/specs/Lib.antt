@@ -1,2 +1,3 @@
 pub mod Numbers
-pub mod Found
+pub mod Reading
+pub mod Differences

@@ -1,63 +1,60 @@
 // Buffers filled from stored answers, and compared with them.
-ghost use Rattle.std.specs.Prelude.{◌≡◌, length};
-ghost use Rattle.stored_answers.specs.Numbers.{numbers, bytes, has_numbers, has_bytes};
+ghost use Rattle.std.specs.Prelude.{◌≡◌, ℕ, List, length, get_or};
+ghost use Rattle.stored_answers.specs.Numbers.{listed, agree, long};
+ghost use Rattle.stored_answers.specs.Reading.{moved};
 
-use crate::numbers::{byte, long, past};
+use crate::numbers::Reader;
 
-// Fills a buffer with the numbers from `at` on.
-pub fn fill(b: &mut [u32], d: &[u8], at: usize)
-    ensures { b.new ≡ numbers (length b.old) d.now at }
-{
-    let mut here = at;
-    let mut i: usize = 0;
-    while i < b.len() {
-        b[i] = long(d, here) as u32;
-        here = past(here, 4);
-        i += 1;
+/// What answers store one after the other.
+pub trait Stored: Copy {
+    /// The one that starts at a place of the answers, and how many bytes it has.
+    ghost stored: { List ℕ → ℕ → Self };
+
+    ghost width: { ℕ };
+
+    fn read(answers: &mut Reader) -> Self
+        ensures value { result ≡ stored answers.old.answers.now answers.old.place }
+        ensures goes { answers.new ≡ moved answers.old width };
+}
+
+impl Stored for u8 {
+    ghost stored = { λ d at. get_or d at 0 };
+
+    ghost width = { 1 };
+
+    fn read(answers: &mut Reader) -> u8 {
+        answers.byte() as u8
     }
 }
 
-// Fills a buffer with the bytes from `at` on.
-pub fn copy(b: &mut [u8], d: &[u8], at: usize)
-    ensures { b.new ≡ bytes (length b.old) d.now at }
-{
-    let mut here = at;
-    let mut i: usize = 0;
-    while i < b.len() {
-        b[i] = byte(d, here) as u8;
-        here = past(here, 1);
-        i += 1;
+impl Stored for u32 {
+    ghost stored = { λ d at. long d at };
+
+    ghost width = { 4 };
+
+    fn read(answers: &mut Reader) -> u32 {
+        answers.long() as u32
     }
 }
 
-// Whether the numbers from `at` on are those of a buffer.
-pub fn same_numbers(b: &[u32], d: &[u8], at: usize) -> bool
-    ensures { result ≡ has_numbers b.now d.now at }
+/// Fills a buffer with what comes next.
+pub fn fill<T: Stored>(b: &mut [T], answers: &mut Reader)
+    ensures { b.new ≡ listed (T.stored answers.old.answers.now) T.width (length b.old) answers.old.place }
 {
-    let mut here = at;
-    let mut i: usize = 0;
-    while i < b.len() {
-        if b[i] != long(d, here) as u32 {
+    for i in 0..b.len() {
+        b[i] = T::read(answers);
+    }
+}
+
+/// Whether what comes next is what a buffer holds.
+pub fn is_next<T: Stored + PartialEq>(b: &[T], answers: &Reader) -> bool
+    ensures { result ≡ agree T.eq (T.stored answers.now.answers.now) T.width b.now answers.now.place }
+{
+    let mut rest = *answers;
+    for x in b {
+        if *x != T::read(&mut rest) {
             return false;
         }
-        here = past(here, 4);
-        i += 1;
-    }
-    true
-}
-
-// Whether the bytes from `at` on are those of a buffer.
-pub fn same_bytes(b: &[u8], d: &[u8], at: usize) -> bool
-    ensures { result ≡ has_bytes b.now d.now at }
-{
-    let mut here = at;
-    let mut i: usize = 0;
-    while i < b.len() {
-        if b[i] != byte(d, here) as u8 {
-            return false;
-        }
-        here = past(here, 1);
-        i += 1;
     }
     true
 }

@@ -5,7 +5,7 @@
 #![tactic(auto)]
 
 pub mod compare;
-pub mod found;
+pub mod difference;
 pub mod group;
 pub mod numbers;
 pub mod report;

@@ -1,115 +1,105 @@
-// What a replay found, as lines: a case that differs, how often each answer was given, and the end.
+// What a replay found, as lines: a case that differs, how often each answer was given, and the end. What can't be
+// written is passed over.
 ghost use Rattle.std.specs.Prelude.{◌≡◌, ◌≤◌, set, get_or};
 ghost use Rattle.stored_answers.specs.Numbers.{onward};
-ghost use Rattle.stored_answers.specs.Found.{differs, total, all_same};
+ghost use Rattle.stored_answers.specs.Differences.{differs, total, all_same, number_in};
 
-use crate::found::{Found, is_same};
-use crate::numbers::past;
+use crate::difference::Difference;
+use crate::numbers::{Reader, forward, past};
+use refusals::Refused;
 
-// How many cases there are, how many differ, and whether the answers end before the last case does.
-#[derive(Drop)]
+/// How many cases there are, how many differ, and whether the answers end before the last case does.
+#[derive(Clone, Copy, Debug, Default, PartialEq, Eq)]
 pub struct Compared {
     pub cases: usize,
     pub differ: usize,
     pub cut: bool,
 }
 
-// What can't be written is passed over.
-fn write(rt: &impl Print, text: &[u8]) {
-    let _ = rt.write_all(text);
-}
-
-fn write_number(rt: &impl Print, n: usize) {
-    let _ = rt.print(n);
-}
-
-fn write_found(rt: &impl Print, f: Found) {
-    match f {
-        Found::Same => write(rt, b"nothing"),
-        Found::Number => write(rt, b"refusal number"),
-        Found::Place => write(rt, b"place"),
-        Found::State => write(rt, b"state"),
-        Found::Count => write(rt, b"count"),
-        Found::Rows => write(rt, b"rows"),
-        Found::Marks => write(rt, b"marks"),
-        Found::Layout => write(rt, b"layout state"),
-        Found::Rendering => write(rt, b"rendering state"),
-        Found::Text => write(rt, b"text"),
-        Found::Reply => write(rt, b"what the program writes"),
-        Found::Room => write(rt, b"room of the replay"),
-    }
-}
-
-// A line for a case that differs.
-fn show(rt: &impl Print, case: usize, f: Found) {
-    write(rt, b"case ");
-    write_number(rt, case);
-    write(rt, b" differs: ");
-    write_found(rt, f);
-    write(rt, b"\n");
-}
-
-// Shows a case if it differs, and how many that are, 0 or 1.
-pub fn told(rt: &impl Print, case: usize, f: Found) -> usize
-    ensures { (result ≡ differs f) × (result ≤ 1) }
+/// Shows a case if it differs, and how many that are, 0 or 1.
+pub fn told(rt: &impl Print, case: usize, found: Result<(), Difference>) -> usize
+    ensures { (result ≡ differs found) × (result ≤ 1) }
 {
-    if is_same(f) {
-        return 0;
+    match found {
+        Ok(()) => 0,
+        Err(difference) => {
+            let _ = println!(rt; "case {case} differs: {difference}");
+            1
+        }
     }
-    show(rt, case, f);
-    1
 }
 
-// A line with a number.
-fn show_number(rt: &impl Print, what: &[u8], n: usize) {
-    write(rt, what);
-    write(rt, b": ");
-    write_number(rt, n);
-    write(rt, b"\n");
+/// Replays the cases that answers store one after the other, each by the same function; each that differs is shown.
+pub fn replay<P: Print, F: FnMut(&mut Reader) -> Result<(), Difference>>(
+    rt: &P,
+    answers: &[u8],
+    mut case: F,
+) -> Compared
+    requires { F.IsAlwaysCallable case }
+{
+    let mut reader = Reader { answers, place: 0 };
+    let mut cases = 0;
+    let mut differ = 0;
+    while reader.place < answers.len() {
+        let from = reader.place;
+        let found = case(&mut reader);
+        cases += 1;
+        differ += told(rt, cases, found);
+        reader = Reader {
+            answers,
+            place: forward(from, reader.place),
+        };
+    }
+    Compared {
+        cases,
+        differ,
+        cut: reader.is_cut(),
+    }
 }
 
-fn show_count(rt: &impl Print, what: &[u8], number: usize, n: usize) {
-    if n == 0 {
-        return;
-    }
-    write(rt, what);
-    if number == 0 {
-        show_number(rt, b" accepted", n);
-        return;
-    }
-    write(rt, b" refused with ");
-    write_number(rt, number);
-    show_number(rt, b"", n);
+fn show_count(rt: &impl Print, what: &str, number: usize, n: usize) {
+    let _ = match (number, n) {
+        (_, 0) => Ok(()),
+        (0, _) => println!(rt; "{what} accepted: {n}"),
+        _ => println!(rt; "{what} refused with {number}: {n}"),
+    };
 }
 
-// A line for each answer that was given, `accepted` or the number; how many answers that are in all.
-pub fn show_counts(rt: &impl Print, what: &[u8], counts: &[usize]) -> usize
+/// A line for each answer that was given, `accepted` or the number; how many answers that are in all.
+pub fn show_counts(rt: &impl Print, what: &str, counts: &[usize]) -> usize
     ensures { result ≡ total counts.now }
 {
-    let mut n: usize = 0;
-    let mut i: usize = 0;
-    while i < counts.len() {
-        show_count(rt, what, i, counts[i]);
-        n = past(n, counts[i]);
-        i += 1;
+    let mut all = 0;
+    for (number, &n) in counts.iter().enumerate() {
+        show_count(rt, what, number, n);
+        all = past(all, n);
     }
-    n
+    all
 }
 
-// How many cases there are and how many differ, and whether the answers end too early; whether all is well.
-pub fn show_end(rt: &impl Print, what: &[u8], c: Compared) -> bool
+/// How many cases there are and how many differ, and whether the answers end too early; whether all is well.
+pub fn show_end(rt: &impl Print, what: &str, c: Compared) -> bool
     ensures { result ≡ all_same c }
 {
-    show_number(rt, what, c.cases);
-    show_number(rt, b"differ", c.differ);
+    let _ = println!(rt; "{what}: {}", c.cases);
+    let _ = println!(rt; "differ: {}", c.differ);
     if c.cut {
-        write(rt, b"the answers are cut off\n");
-        return false;
+        let _ = println!(rt; "the answers are cut off");
     }
-    c.differ == 0
+    !c.cut && c.differ == 0
 }
 
-// One more of an answer.
+/// The number that an answer is counted under: that of a refusal, or 0.
+pub fn number_of<T: Copy>(answer: Result<T, Refused>) -> usize
+    ensures { result ≡ number_in answer }
+{
+    match answer {
+        Ok(_) => 0,
+        Err(refused) => usize::from(refused.number()),
+    }
+}
+
+/// One more of an answer.
 pub fn count(counts: &mut [usize], number: usize)
     ensures { counts.new ≡ set counts.old number (onward (get_or counts.old number 0) 1) }
 {

@@ -2,7 +2,7 @@
 -- Assumes nothing.
 use mathlib.Core.Path.{◌≡◌, refl, sym, ap, ◌∙◌}
 use mathlib.Core.Bool.{Bool}
-use mathlib.Core.Option.{Option, none, some}
+use Rattle.std.specs.Prelude.{Option, None, Some}
 use mathlib.Core.List.{List, [], ◌∷◌, map}
 use Prim.Native.Nat.{ℕ, zero, suc, ◌+◌, ◌*◌, ◌≤◌, ◌<◌, max}
 use native.Mathlib.Nat.{add_assoc, add_left_comm, zero-add, zero-max, add-zero, max-zero}
@@ -69,10 +69,10 @@ held_passes : (t : Tallies) → Held t → t.files < MAX_FILES → Passing t
 held_passes t h l = omega arith
 
 -- 14 lets them pass until 4,096 are counted
-lets_pass : (t : Tallies) → Held t → t.files < MAX_FILES → tally_refusal t ≡ none
+lets_pass : (t : Tallies) → Held t → t.files < MAX_FILES → tally_refusal t ≡ None
 lets_pass t h l = ap (λ (b : Bool). refuse_if b 14 0) (passes t (held_passes t h l))
 
-refuses : (t : Tallies) → MAX_FILES ≤ t.files → tally_refusal t ≡ some (record { number = 14; place = 0 })
+refuses : (t : Tallies) → MAX_FILES ≤ t.files → tally_refusal t ≡ Some (record { number = 14; place = 0 })
 refuses t h = rw (le-leb MAX_FILES t.files h)
 
 module _ {A : Type 0} (refusal : A → Option Refusal) (figures : A → Figures) where
@@ -95,8 +95,8 @@ module _ {A : Type 0} (refusal : A → Option Refusal) (figures : A → Figures)
       ≡ Total t
       (map figures
       (unless o (counted_of (unless o t (added (figures x) t)) xs) (x ∷ counted_of (unless o t (added (figures x) t)) xs)))
-  onward_with (some r) x xs on t = on t
-  onward_with none x xs on t =
+  onward_with (Some r) x xs on t = on t
+  onward_with None x xs on t =
       on (added (figures x) t) ∙ total_more (figures x) t (map figures (counted_of (added (figures x) t) xs))
 
   onward : (xs : List A) → Onward xs
@@ -143,11 +143,11 @@ module _ {A : Type 0} (refusal : A → Option Refusal) (figures : A → Figures)
       → AllSmall (map figures (unless o (accepted_of xs) (x ∷ accepted_of xs)))
       → With x xs t (first (o ∷ tally_refusal t ∷ [])) ≡ take k (unless o (accepted_of xs) (x ∷ accepted_of xs))
   unfolding AllSmall
-  going_with (some r) x xs on k t h e small = on k t h e small
-  going_with none x xs on zero t h e small =
-      ap (λ (p : Option Refusal). With x xs t (or_else p none)) (refuses t (omega arith)) ∙ on zero t h e small.1
-  going_with none x xs on (suc k) t h e small =
-      ap (λ (p : Option Refusal). With x xs t (or_else p none)) (lets_pass t h (omega arith))
+  going_with (Some r) x xs on k t h e small = on k t h e small
+  going_with None x xs on zero t h e small =
+      ap (λ (p : Option Refusal). With x xs t (or_else p None)) (refuses t (omega arith)) ∙ on zero t h e small.1
+  going_with None x xs on (suc k) t h e small =
+      ap (λ (p : Option Refusal). With x xs t (or_else p None)) (lets_pass t h (omega arith))
       ∙ ap (λ (l : List A). x ∷ l) (on k (added (figures x) t) (held_added (figures x) t small.0 h) (omega arith) small.1)
 
   going : (xs : List A) → Going xs
@@ -165,14 +165,14 @@ module _ {A : Type 0} (refusal : A → Option Refusal) (figures : A → Figures)
   same_order (x ∷ xs) = same_first x (same_order xs)
 
   first_accepted : (o : Option Refusal) (x : A) {ys zs : List A} → Reordered ys zs → Reordered (unless o ys (x ∷ ys)) (unless o zs (x ∷ zs))
-  first_accepted (some r) x q = q
-  first_accepted none x q = same_first x q
+  first_accepted (Some r) x q = q
+  first_accepted None x q = same_first x q
 
   two_accepted : (o p : Option Refusal) (x y : A) (zs : List A)
       → Reordered (unless o (unless p zs (y ∷ zs)) (x ∷ unless p zs (y ∷ zs))) (unless p (unless o zs (x ∷ zs)) (y ∷ unless o zs (x ∷ zs)))
-  two_accepted (some r) p x y zs = same_order _
-  two_accepted none (some r) x y zs = same_order _
-  two_accepted none none x y zs = first_two x y zs
+  two_accepted (Some r) p x y zs = same_order _
+  two_accepted None (Some r) x y zs = same_order _
+  two_accepted None None x y zs = first_two x y zs
 
   same_accepted : {xs ys : List A} → Reordered xs ys → Reordered (accepted_of xs) (accepted_of ys)
   unfolding accepted

@@ -1,7 +1,6 @@
 -- "totals, the same in any order of the files counted (sums, for `column` the greatest)": for files of any kind, each with what refuses it by
 -- document 01 and with the figures that it gives if nothing does. proofs/Order.antt proves the claims at the end.
-use Rattle.std.specs.Prelude.{◌≡◌, List, [], ◌∷◌, map, ◌*◌, ◌≤◌, length, take}
-use Rattle.std.proofs.Math.Option.{Option}
+use Rattle.std.specs.Prelude.{◌≡◌, List, [], ◌∷◌, map, ◌*◌, ◌≤◌, length, take, Option}
 use Rattle.refusals.specs.Refusals.{Refusal, unless, first}
 use Rattle.tallies.specs.declared.Figures.{Figures}
 use Rattle.tallies.specs.declared.Tallies.{Tallies}

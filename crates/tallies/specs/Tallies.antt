@@ -1,6 +1,5 @@
 -- Document 02, 2/14: the tallies over files, and refusal 14.
-use Rattle.std.proofs.Math.Option.{Option}
-use Rattle.std.specs.Prelude.{Bool, List, [], ◌∷◌, ◌++◌, ℕ, ◌+◌, ◌≤◌, max, ltb, leb}
+use Rattle.std.specs.Prelude.{Bool, List, [], ◌∷◌, ◌++◌, ℕ, ◌+◌, ◌≤◌, max, ltb, leb, Option}
 use Rattle.refusals.specs.Refusals.{Refusal, any, refuse_if}
 use Rattle.tallies.specs.declared.Figures.{Figures}
 use Rattle.tallies.specs.declared.Tallies.{Tallies}

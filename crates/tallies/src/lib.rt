@@ -4,9 +4,9 @@
 pub mod lowest;
 pub mod sums;
 
-// What one file gives: "text bytes, newlines, greatest value `column` takes, group numbers given, groups wrapped (marks at 1), comments
-// placed, comments left".
-#[derive(Clone, Copy)]
+/// What one file gives: "text bytes, newlines, greatest value `column` takes, group numbers given, groups wrapped (marks at 1), comments
+/// placed, comments left".
+#[derive(Clone, Copy, Debug, Default, PartialEq, Eq)]
 pub struct Figures {
     pub bytes: usize,
     pub newlines: usize,
@@ -17,15 +17,15 @@ pub struct Figures {
     pub left: usize,
 }
 
-// What the files counted so far give: how many there are, and their figures together.
-#[derive(Clone, Copy)]
+/// What the files counted so far give: how many there are, and their figures together.
+#[derive(Clone, Copy, Debug, Default, PartialEq, Eq)]
 pub struct Tallies {
     pub files: usize,
     pub all: Figures,
 }
 
-// Wrapped over given.
-#[derive(Clone, Copy)]
+/// Wrapped over given.
+#[derive(Clone, Copy, Debug, PartialEq, Eq)]
 pub struct Fraction {
     pub over: usize,
     pub under: usize,

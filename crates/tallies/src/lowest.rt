@@ -5,20 +5,18 @@ ghost use Rattle.tallies.specs.Fraction.{common_divisor, reduced};
 use crate::Fraction;
 
 // The greatest number that divides both, by Euclid's steps.
-fn common_divisor(a: usize, b: usize) -> usize
+#[tactic(auto, using(crate::proofs::Divisor::at_end, crate::proofs::Divisor::keeps))]
+fn common_divisor(mut a: usize, mut b: usize) -> usize
     ensures { result ≡ common_divisor a b }
 {
-    let mut x = a;
-    let mut y = b;
-    while y != 0 {
-        let rest = x % y;
-        x = y;
-        y = rest;
+    while b != 0 {
+        (a, b) = (b, a % b);
     }
-    x
+    a
 }
 
-// Wrapped over given in lowest terms; 0 over 1 when none is given.
+/// Wrapped over given in lowest terms; 0 over 1 when none is given.
+#[tactic(auto, using(crate::proofs::Divisor::positive), unfolding(crate::specs::Fraction::reduced))]
 pub fn reduced(wrapped: usize, given: usize) -> Fraction
     ensures { result ≡ reduced wrapped given }
 {

@@ -3,14 +3,15 @@
 use mathlib.Core.Path.{◌≡◌, refl, sym, ap, ◌∙◌}
 use mathlib.Core.Bool.{Bool, true, false, cond}
 use mathlib.Core.List.{List}
-use Prim.Native.Nat.{ℕ, ◌+◌, ◌-◌, ◌≤◌, ◌<◌}
+use Prim.Native.Nat.{ℕ, zero, suc, ◌+◌, ◌-◌, ◌≤◌, ◌<◌}
 use native.Mathlib.Omega.{arith}
 use lib.ListN.{length}
 use lib.Dec.{leb, ltb, eqb}
 use borrow.Author.Tests.{eq-eqb, ne_eqb, eqb-true, eqb-false, leb-true, lt-leb, ltb-true, ltb-false}
-use Rattle.text.specs.Utf8.{sequence, scalar, decoded, char_at, ends, ending, char_before}
-use Rattle.text.specs.declared.utf8.Decoded.{Decoded}
-use Rattle.text.specs.declared.utf8.Decoded.TheVariants.{Char, Nothing}
+use Rattle.std.proofs.lemmas.Bool.Decides.{nat_tests}
+use Rattle.text.specs.Utf8.{some_bytes, sequence, scalar, decoded, char_at, ends, ending, char_before}
+use Rattle.text.specs.declared.utf8.Char.{Char}
+use Rattle.std.specs.Prelude.{Option, None, Some}
 use Rattle.text.proofs.Runs.{none_past}
 use Rattle.text.proofs.Sequences.{sequence_fits}
 use Rattle.laws.proofs.Booleans.{and_left, and_right}
@@ -23,19 +24,26 @@ sequence_inside s at h = go (ltb at (length s)) refl
     go true e = sequence_fits s at (omega (arith, ltb-true at (length s) e))
     go false e = absurd (omega (arith, none_past s at (ltb-false at (length s) e)))
 
-pub decoded_none : (s : List ℕ) (at n : ℕ) → n ≡ 0 → Nothing ≡ decoded s at n
+pub decoded_none : (s : List ℕ) (at n : ℕ) → n ≡ 0 → None ≡ decoded s at n
 unfolding decoded
 decoded_none s at n e = sym (simp (eq-eqb n 0 e))
 
-pub decoded_char : (s : List ℕ) (at n c : ℕ) → (n ≡ 0 → ⊥) → c ≡ scalar s at n → Char c n ≡ decoded s at n
+pub decoded_char : (s : List ℕ) (at n c : ℕ) → (n ≡ 0 → ⊥) → c ≡ scalar s at n → Some (record { code = c; bytes = n }) ≡ decoded s at n
 unfolding decoded
-decoded_char s at n c h e = ap (λ k. Char k n) e ∙ sym (simp (ne_eqb n 0 h))
+decoded_char s at n c h e = ap (λ k. Some (record { code = k; bytes = n })) e ∙ sym (simp (ne_eqb n 0 h))
 
-pub at_decoded : (s : List ℕ) (at n : ℕ) (d : Decoded) → n ≡ sequence s at → d ≡ decoded s at n → d ≡ char_at s at
+-- how many bytes the code finds, where it finds any
+pub bytes_of : (m n : ℕ) → some_bytes m ≡ Some n → (n ≡ m) × (0 < n)
+bytes_of m n e = grind (arith, nat_tests)
+
+pub bytes_none : (m : ℕ) → some_bytes m ≡ None → m ≡ 0
+bytes_none m e = grind (arith, nat_tests)
+
+pub at_decoded : (s : List ℕ) (at n : ℕ) (d : Option Char) → n ≡ sequence s at → d ≡ decoded s at n → d ≡ char_at s at
 unfolding char_at
 at_decoded s at n d e f = f ∙ ap (decoded s at) e
 
-pub before_decoded : (s : List ℕ) (from to n : ℕ) (d : Decoded) → n ≡ ending s from to → d ≡ decoded s (to - n) n → d ≡ char_before s from to
+pub before_decoded : (s : List ℕ) (from to n : ℕ) (d : Option Char) → n ≡ ending s from to → d ≡ decoded s (to - n) n → d ≡ char_before s from to
 unfolding char_before
 before_decoded s from to n d e f = f ∙ ap (λ k. decoded s (to - k) k) e
 
@@ -46,6 +54,25 @@ ends_fits s from to k e = (
   leb-true (from + k) to (and_left (leb (from + k) to) (eqb (sequence s (to - k)) k) e),
   eqb-true (sequence s (to - k)) k (and_right (leb (from + k) to) (eqb (sequence s (to - k)) k) e),
 )
+
+-- the least k from 1 to 4 for which one does, or none
+pub ending_at :
+    (s : List ℕ) (from to k : ℕ) → 0 < k → k < 5 → ends s from to k ≡ true
+    → ((j : ℕ) → 0 < j → j < k → ends s from to j ≡ false)
+    → Some k ≡ some_bytes (ending s from to)
+unfolding ending
+ending_at s from to zero h l e f = absurd (omega arith)
+ending_at s from to (suc zero) h l e f = rw e
+ending_at s from to (suc (suc zero)) h l e f = rw (f 1 (omega arith) (omega arith), e)
+ending_at s from to (suc (suc (suc zero))) h l e f = rw (f 1 (omega arith) (omega arith), f 2 (omega arith) (omega arith), e)
+ending_at s from to (suc (suc (suc (suc zero)))) h l e f =
+    rw (f 1 (omega arith) (omega arith), f 2 (omega arith) (omega arith), f 3 (omega arith) (omega arith), e)
+ending_at s from to (suc (suc (suc (suc (suc k))))) h l e f = absurd (omega arith)
+
+pub ending_none : (s : List ℕ) (from to : ℕ) → ((j : ℕ) → 0 < j → j < 5 → ends s from to j ≡ false) → None ≡ some_bytes (ending s from to)
+unfolding ending
+ending_none s from to f =
+    rw (f 1 (omega arith) (omega arith), f 2 (omega arith) (omega arith), f 3 (omega arith) (omega arith), f 4 (omega arith) (omega arith))
 
 pub ending_ends : (s : List ℕ) (from to : ℕ) → 0 < ending s from to → ends s from to (ending s from to) ≡ true
 unfolding ending
@@ -75,31 +102,31 @@ unfolding ending ends
 ending_empty s from to h =
     simp (lt-leb (from + 1) to (omega arith), lt-leb (from + 2) to (omega arith), lt-leb (from + 3) to (omega arith), lt-leb (from + 4) to (omega arith))
 
-pub before_empty : (s : List ℕ) (from to : ℕ) → to ≤ from → char_before s from to ≡ Nothing
-before_empty s from to h = sym (before_decoded s from to 0 Nothing (sym (ending_empty s from to h)) (decoded_none s (to - 0) 0 refl))
+pub before_empty : (s : List ℕ) (from to : ℕ) → to ≤ from → char_before s from to ≡ None
+before_empty s from to h = sym (before_decoded s from to 0 None (sym (ending_empty s from to h)) (decoded_none s (to - 0) 0 refl))
 
 -- a character has the bytes that were decoded, and not none
-pub decoded_is : (s : List ℕ) (at k c n : ℕ) → decoded s at k ≡ Char c n → (n ≡ k) × (0 < k) × (c ≡ scalar s at k)
+pub decoded_is : (s : List ℕ) (at k : ℕ) (c : Char) → decoded s at k ≡ Some c → (c.bytes ≡ k) × (0 < k) × (c.code ≡ scalar s at k)
 unfolding decoded
-decoded_is s at k c n = go (eqb k 0) refl
+decoded_is s at k c = go (eqb k 0) refl
   where
-    go : (t : Bool) → eqb k 0 ≡ t → cond t Nothing (Char (scalar s at k) k) ≡ Char c n → (n ≡ k) × (0 < k) × (c ≡ scalar s at k)
+    go : (t : Bool) → eqb k 0 ≡ t → cond t None (Some (record { code = scalar s at k; bytes = k })) ≡ Some c → (c.bytes ≡ k) × (0 < k) × (c.code ≡ scalar s at k)
     go true q e = let z : ◌≡◌ {A = ℕ} 0 1 = cc in absurd (omega arith)
     go false q e = (cc, omega (arith, eqb-false k 0 q), cc)
 
-pub at_inside : (s : List ℕ) (at c n : ℕ) → char_at s at ≡ Char c n → (0 < n) × (at + n ≤ length s) × (n ≡ sequence s at)
+pub at_inside : (s : List ℕ) (at : ℕ) (c : Char) → char_at s at ≡ Some c → (0 < c.bytes) × (at + c.bytes ≤ length s) × (c.bytes ≡ sequence s at)
 unfolding char_at
-at_inside s at c n e =
-    let d = decoded_is s at (sequence s at) c n e in
+at_inside s at c e =
+    let d = decoded_is s at (sequence s at) c e in
     let inside = sequence_inside s at d.1 in
     (omega arith, omega arith, d.0)
 
-pub before_inside : (s : List ℕ) (from to c n : ℕ) → char_before s from to ≡ Char c n → (0 < n) × (from + n ≤ to) × (n ≡ ending s from to)
+pub before_inside : (s : List ℕ) (from to : ℕ) (c : Char) → char_before s from to ≡ Some c → (0 < c.bytes) × (from + c.bytes ≤ to) × (c.bytes ≡ ending s from to)
 unfolding char_before
-before_inside s from to c n e =
-    let d = decoded_is s (to - ending s from to) (ending s from to) c n e in
+before_inside s from to c e =
+    let d = decoded_is s (to - ending s from to) (ending s from to) c e in
     let inside = ending_fits s from to d.1 in
     (omega arith, omega (arith, inside.0), d.0)
 
-pub none_at_end : (s : List ℕ) (at : ℕ) → length s ≤ at → char_at s at ≡ Nothing
-none_at_end s at h = sym (at_decoded s at 0 Nothing (sym (none_past s at h)) (decoded_none s at 0 refl))
+pub none_at_end : (s : List ℕ) (at : ℕ) → length s ≤ at → char_at s at ≡ None
+none_at_end s at h = sym (at_decoded s at 0 None (sym (none_past s at h)) (decoded_none s at 0 refl))

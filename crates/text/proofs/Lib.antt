@@ -6,7 +6,6 @@ pub mod Counts
 pub mod LastNewline
 pub mod Parts
 pub mod Prefixes
-pub mod Ranges
 pub mod Reached
 pub mod Runs
 pub mod Searches

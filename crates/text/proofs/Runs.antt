@@ -3,15 +3,15 @@
 use mathlib.Core.Path.{◌≡◌, refl, sym, ap, ◌∙◌}
 use mathlib.Core.List.{List}
 use mathlib.Core.Bool.{Bool, true, false, cond, ◌&&◌}
-use Prim.Native.Nat.{ℕ, zero, suc, ◌+◌, ◌-◌, ◌/◌, ◌%◌, ◌≤◌, ◌<◌}
+use Prim.Native.Nat.{ℕ, zero, suc, ◌+◌, ◌/◌, ◌%◌, ◌≤◌, ◌<◌}
 use native.Mathlib.Omega.{arith}
 use native.Mathlib.Nat.{add-zero, add-suc}
 use native.Mathlib.Numerals.{add-one}
 use lib.ListN.{length, get_or}
 use lib.Dec.{leb, eqb}
-use borrow.Author.Tests.{eq-eqb, ne_eqb, le-ltb, lt-leb, le-leb, leb-true, eqb-true}
-use Rattle.text.specs.Utf8.{sequence, highs, plain, stride, run, prefix, well_formed, ill_formed, refusal_of}
-use Rattle.text.specs.declared.utf8.Checked.TheVariants.{WellFormed, Bad}
+use borrow.Author.Tests.{eq-eqb, ne_eqb, le-ltb, leb-true, eqb-true}
+use Rattle.text.specs.Utf8.{sequence, highs, plain, stride, run, prefix, well_formed, ill_formed}
+use Rattle.std.specs.Prelude.{None, Some}
 use Rattle.text.proofs.Sequences.{ascii, sequence_fits}
 use Rattle.laws.proofs.Booleans.{and_left, and_right}
 
@@ -53,9 +53,6 @@ pub highs_more : (k : ℕ) (s : List ℕ) (at n : ℕ) → n ≡ highs k s at �
 unfolding highs
 highs_more k s at n e = rw (add-one k, e)
 
-pub counted : (k : ℕ) (s : List ℕ) (at n : ℕ) → k ≤ 16 → 16 ≤ k → n ≡ highs k s at → n ≡ highs 16 s at
-counted k s at n h l e = let q : k ≡ 16 = omega arith in e ∙ ap (λ j. highs j s at) q
-
 next_low : (n : ℕ) (s : List ℕ) (at : ℕ) → at + n ≤ length s → highs n s at ≡ 0 → Going s at → Going s (at + n)
 unfolding highs
 next_low zero s at l h g = rw add-zero g
@@ -69,12 +66,6 @@ plain_fits n s at h = leb-true (at + n) (length s) (and_left (leb (at + n) (leng
 
 pub next_plain : (n : ℕ) (s : List ℕ) (at : ℕ) → plain n s at ≡ true → Going s at → Going s (at + n)
 next_plain n s at h g = next_low n s at (plain_fits n s at h) (eqb-true (highs n s at) 0 (and_right (leb (at + n) (length s)) (eqb (highs n s at) 0) h)) g
-
-pub plain_short : (s : List ℕ) (at : ℕ) → at ≤ length s → length s - at < 16 → false ≡ plain 16 s at
-plain_short s at h k = sym (rw (lt-leb (at + 16) (length s) (omega arith)))
-
-pub plain_long : (s : List ℕ) (at n : ℕ) → at + 16 ≤ length s → n ≡ highs 16 s at → eqb n 0 ≡ plain 16 s at
-plain_long s at n h e = sym (rw (le-leb (at + 16) (length s) h, e))
 
 -- the check goes on
 pub stride_odd : (s : List ℕ) (at n : ℕ) → (at % 16 ≡ 0 → ⊥) → n ≡ sequence s at → n ≡ stride s at
@@ -116,10 +107,10 @@ stride_none s at e = go (eqb (at % 16) 0 && plain 16 s at) e
 pub stop : (s : List ℕ) (at : ℕ) → sequence s at ≡ 0 → Going s at → prefix s ≡ at
 stop s at e g = g.same ∙ run_stop g.turns s at e
 
-pub checked_bad : (s : List ℕ) (at : ℕ) → prefix s ≡ at → at < length s → refusal_of (Bad at) ≡ ill_formed s
+pub checked_bad : (s : List ℕ) (at : ℕ) → prefix s ≡ at → at < length s → Some (record { number = 2; place = at }) ≡ ill_formed s
 unfolding ill_formed well_formed
 checked_bad s at e h = sym (rw (e, ne_eqb at (length s) (λ p. omega arith)))
 
-pub checked_good : (s : List ℕ) → prefix s ≡ length s → refusal_of WellFormed ≡ ill_formed s
+pub checked_good : (s : List ℕ) → prefix s ≡ length s → None ≡ ill_formed s
 unfolding ill_formed well_formed
 checked_good s e = sym (rw (eq-eqb (prefix s) (length s) e))

@@ -1,28 +1,20 @@
 -- Laws of `sequence`.
 -- Assumes nothing.
-use mathlib.Core.Path.{◌≡◌, refl}
+use mathlib.Core.Path.{◌≡◌, refl, sym}
 use mathlib.Core.Bool.{Bool, true, false, cond, ◌&&◌, ◌||◌}
 use mathlib.Core.List.{List, [], ◌∷◌}
+use mathlib.Core.Logic.{◌⊎◌}
 use Prim.Native.Nat.{ℕ, zero, suc, ◌+◌, ◌≤◌, ◌<◌}
 use native.Mathlib.Omega.{arith}
 use lib.ListN.{length, get_or, get_or-eq_default}
 use lib.Dec.{leb, ltb}
 use borrow.Author.Tests.{lt-ltb, le-leb, lt-leb, ltb-true, ltb-false, leb-true}
-use Rattle.text.specs.Utf8.{Row, row, table37, row_in, row_of, lead_of, within, continues, followed, sequence}
+use Rattle.text.specs.Utf8.{Row, row, table37, row_in, row_of, some_bytes, within, continues, followed, sequence}
+use Rattle.std.specs.Prelude.{None, Some}
+use Rattle.std.specs.Bool.{then_some}
+use Rattle.std.proofs.lemmas.Bool.Decides.{nat_tests}
 use Rattle.laws.proofs.Booleans.{and_left, and_right, or_right}
 use Rattle.text.proofs.Tests.{within_in, within_low, within_high}
-use Rattle.text.specs.declared.utf8.Lead.{Lead}
-
--- the bytes after the one at `at` are as the first byte asks
-abbrev pub after : List ℕ → ℕ → Lead → Bool
-after s at l =
-    (leb l.2 1 || within l.0 l.1 (get_or s (at + 1) 0))
-    && (leb l.2 2 || continues (get_or s (at + 2) 0))
-    && (leb l.2 3 || continues (get_or s (at + 3) 0))
-
-pub sequence_by : (s : List ℕ) (at : ℕ) (l : Lead) → at < length s → l ≡ lead_of (row_of (get_or s at 0)) → sequence s at ≡ cond (after s at l) l.2 0
-unfolding sequence followed
-sequence_by s at l h e = rw (e, lt-ltb at (length s) h)
 
 -- a byte below 80 is a sequence by itself
 ascii_row : (b : ℕ) → b < 0x80 → row_of b ≡ row 0x00 0x7F 0x00 0x00 1
@@ -136,3 +128,69 @@ sequence_fits s at h = go (ltb at (length s)) refl (followed s at (row_of (get_o
     go true e false f = omega arith
     go false e true f = omega arith
     go false e false f = omega arith
+
+-- rows by the first byte, as the code tells them apart
+module _ (b : ℕ) where
+  pub row_none : (0x7F < b) → (b < 0xC2) ⊎ (0xF4 < b) → (row_of b).bytes ≡ 0
+  unfolding row_in within
+  row_none h k = grind (arith, nat_tests)
+
+  pub row_two : 0xC2 ≤ b → b ≤ 0xDF → (row_of b).bytes ≡ 2
+  unfolding row_in within
+  row_two h k = grind (arith, nat_tests)
+
+  pub row_three : 0xE0 ≤ b → b ≤ 0xEF → (row_of b).bytes ≡ 3
+  unfolding row_in within
+  row_three h k = grind (arith, nat_tests)
+
+  pub row_four : 0xF0 ≤ b → b ≤ 0xF4 → (row_of b).bytes ≡ 4
+  unfolding row_in within
+  row_four h k = grind (arith, nat_tests)
+
+-- a byte that may come second
+abbrev pub second : ℕ → ℕ → Bool
+second b = within (row_of b).second_low (row_of b).second_high
+
+-- what the code finds of a sequence whose first byte is b
+module _ (s : List ℕ) (at b : ℕ) (inside : at < length s) (first : b ≡ get_or s at 0) where
+  by_row : (n : ℕ) → (row_of b).bytes ≡ n → sequence s at ≡ cond (followed s at (row_of b)) n 0
+  unfolding sequence
+  by_row n e = rw (← first, e, lt-ltb at (length s) inside)
+
+  pub sequence_one : b < 0x80 → Some 1 ≡ some_bytes (sequence s at)
+  sequence_one h = sym (rw (ascii s at inside (omega arith)))
+
+  pub sequence_none : (row_of b).bytes ≡ 0 → None ≡ some_bytes (sequence s at)
+  sequence_none e = rw (by_row 0 e) (go (followed s at (row_of b)))
+    where
+      go : (t : Bool) → None ≡ some_bytes (cond t 0 0)
+      go true = refl
+      go false = refl
+
+  module _ (t : Bool) where
+    pub sequence_two : (row_of b).bytes ≡ 2 → t ≡ second b (get_or s (at + 1) 0) → then_some t 2 ≡ some_bytes (sequence s at)
+    unfolding followed
+    sequence_two e f = rw (by_row 2 e, e, f) (go (second b (get_or s (at + 1) 0)))
+      where
+        go : (t : Bool) → then_some t 2 ≡ some_bytes (cond (t && true && true) 2 0)
+        go true = refl
+        go false = refl
+
+    pub sequence_three : (row_of b).bytes ≡ 3 → t ≡ (second b (get_or s (at + 1) 0) && continues (get_or s (at + 2) 0)) → then_some t 3 ≡ some_bytes (sequence s at)
+    unfolding followed
+    sequence_three e f = rw (by_row 3 e, e, f) (go (second b (get_or s (at + 1) 0)) (continues (get_or s (at + 2) 0)))
+      where
+        go : (t u : Bool) → then_some (t && u) 3 ≡ some_bytes (cond (t && u && true) 3 0)
+        go true true = refl
+        go true false = refl
+        go false u = refl
+
+    pub sequence_four :
+        (row_of b).bytes ≡ 4 → t ≡ (second b (get_or s (at + 1) 0) && continues (get_or s (at + 2) 0) && continues (get_or s (at + 3) 0))
+        → then_some t 4 ≡ some_bytes (sequence s at)
+    unfolding followed
+    sequence_four e f = rw (by_row 4 e, e, f) (go (second b (get_or s (at + 1) 0) && continues (get_or s (at + 2) 0) && continues (get_or s (at + 3) 0)))
+      where
+        go : (t : Bool) → then_some t 4 ≡ some_bytes (cond t 4 0)
+        go true = refl
+        go false = refl

@@ -1,9 +1,6 @@
 -- White_Space, trimming at the end, and the search of `pop_trailing_comment`.
-use Rattle.std.specs.Prelude.{ℕ, zero, suc, ◌+◌, ◌-◌, List, [], ◌∷◌, Bool, false, cond, not, ◌&&◌, ◌||◌, length, eqb}
+use Rattle.std.specs.Prelude.{ℕ, zero, suc, ◌+◌, ◌-◌, List, [], ◌∷◌, Bool, false, cond, not, ◌&&◌, ◌||◌, length, eqb, Option, None, Some}
 use Rattle.text.specs.Utf8.{within, char_at, char_before}
-use Rattle.text.specs.declared.utf8.Decoded.TheVariants.{Char, Nothing}
-use Rattle.text.specs.declared.space.Found.{Found}
-use Rattle.text.specs.declared.space.Found.TheVariants.{At, Nowhere}
 
 -- first and last code point of a range
 pub record Range : Type 0 where
@@ -39,7 +36,7 @@ is_white = one_of white_space
 -- The range's end without the white space before it, n characters at most.
 unfoldable pub trim : ℕ → List ℕ → ℕ → ℕ → ℕ
 trim zero s from to = to
-trim (suc n) s from to = elim (char_before s from to) [ Nothing ↦ to | Char c k ↦ cond (is_white c) (trim n s from (to - k)) to ]
+trim (suc n) s from to = elim (char_before s from to) [ None ↦ to | Some c ↦ cond (is_white c.code) (trim n s from (to - c.bytes)) to ]
 
 -- `trim_end`: the end of the range from `from` to `to` without the white space at its end. (A range has no more characters than bytes.)
 unfoldable pub trim_end : List ℕ → ℕ → ℕ → ℕ
@@ -50,10 +47,10 @@ abbrev pub is_passed : ℕ → Bool
 is_passed c = is_white c && not (eqb c 0x0A)
 
 -- The place of the first character from `at` on that is not passed; at most n are passed.
-unfoldable pub seek : ℕ → List ℕ → ℕ → Found
-seek zero s at = Nowhere
-seek (suc n) s at = elim (char_at s at) [ Nothing ↦ Nowhere | Char c k ↦ cond (is_passed c) (seek n s (at + k)) (At at) ]
+unfoldable pub seek : ℕ → List ℕ → ℕ → Option ℕ
+seek zero s at = None
+seek (suc n) s at = elim (char_at s at) [ None ↦ None | Some c ↦ cond (is_passed c.code) (seek n s (at + c.bytes)) (Some at) ]
 
 -- The search of `pop_trailing_comment`: the first place from `at` on that is not white space or is a newline.
-unfoldable pub something : List ℕ → ℕ → Found
+unfoldable pub something : List ℕ → ℕ → Option ℕ
 something s at = seek (length s) s at

@@ -1,13 +1,8 @@
 -- Well-formed UTF-8, after the Unicode Standard, section 3.9. A text is a list of bytes, and a place in it counts bytes from its start.
 -- A byte past the end reads as 0, which continues no sequence.
-use Rattle.std.specs.Prelude.{ℕ, zero, suc, ◌+◌, ◌*◌, ◌-◌, ◌/◌, ◌%◌, List, [], ◌∷◌, Bool, cond, not, ◌&&◌, ◌||◌, length, get_or, ltb, leb, eqb}
-use Rattle.std.proofs.Math.Option.{Option, none, some}
+use Rattle.std.specs.Prelude.{ℕ, zero, suc, ◌+◌, ◌*◌, ◌-◌, ◌/◌, ◌%◌, List, [], ◌∷◌, Bool, cond, not, ◌&&◌, ◌||◌, length, get_or, ltb, leb, eqb, Option, None, Some}
 use Rattle.refusals.specs.Refusals.{Refusal, refuse_if}
-use Rattle.text.specs.declared.utf8.Checked.{Checked}
-use Rattle.text.specs.declared.utf8.Checked.TheVariants.{WellFormed, Bad}
-use Rattle.text.specs.declared.utf8.Lead.{Lead}
-use Rattle.text.specs.declared.utf8.Decoded.{Decoded}
-use Rattle.text.specs.declared.utf8.Decoded.TheVariants.{Char, Nothing}
+use Rattle.text.specs.declared.utf8.Char.{Char}
 
 -- x is one of low to high
 unfoldable pub within : ℕ → ℕ → ℕ → Bool
@@ -78,11 +73,6 @@ well_formed s = eqb (prefix s) (length s)
 unfoldable pub ill_formed : List ℕ → Option Refusal
 ill_formed s = refuse_if (not (well_formed s)) 2 (prefix s)
 
--- what `check` returns, case by case
-abbrev pub refusal_of : Checked → Option Refusal
-refusal_of WellFormed = none
-refusal_of (Bad at) = some (record { number = 2; place = at })
-
 -- A character boundary: the end of the text, or a byte that starts a sequence.
 unfoldable pub boundary : List ℕ → ℕ → Bool
 boundary s at = leb at (length s) && not (continues (get_or s at 0))
@@ -95,12 +85,12 @@ scalar s at n =
     (cond (eqb n 3) (get_or s at 0 % 16 * 4096 + get_or s (at + 1) 0 % 64 * 64 + get_or s (at + 2) 0 % 64)
     (get_or s at 0 % 8 * 262144 + get_or s (at + 1) 0 % 64 * 4096 + get_or s (at + 2) 0 % 64 * 64 + get_or s (at + 3) 0 % 64)))
 
--- a sequence of n bytes at `at` as a character: its code point and how many bytes it has; nothing where n is 0
-unfoldable pub decoded : List ℕ → ℕ → ℕ → Decoded
-decoded s at n = cond (eqb n 0) Nothing (Char (scalar s at n) n)
+-- a sequence of n bytes at `at` as a character: its code point and how many bytes it has; none where n is 0
+unfoldable pub decoded : List ℕ → ℕ → ℕ → Option Char
+decoded s at n = cond (eqb n 0) None (Some (record { code = scalar s at n; bytes = n }))
 
 -- the character that starts at `at`
-unfoldable pub char_at : List ℕ → ℕ → Decoded
+unfoldable pub char_at : List ℕ → ℕ → Option Char
 char_at s at = decoded s at (sequence s at)
 
 -- a sequence of k bytes ends at `to` and starts at `from` or after it
@@ -113,13 +103,13 @@ ending s from to =
     cond (ends s from to 1) 1 (cond (ends s from to 2) 2 (cond (ends s from to 3) 3 (cond (ends s from to 4) 4 0)))
 
 -- the last character of the range from `from` to `to`
-unfoldable pub char_before : List ℕ → ℕ → ℕ → Decoded
+unfoldable pub char_before : List ℕ → ℕ → ℕ → Option Char
 char_before s from to = decoded s (to - ending s from to) (ending s from to)
 
 -- ---- How the code checks a text: no rule rests on what follows.
--- what the code keeps of a row
-abbrev pub lead_of : Row → Lead
-lead_of r = (r.second_low, r.second_high, r.bytes)
+-- how many bytes there are, where there are any
+abbrev pub some_bytes : ℕ → Option ℕ
+some_bytes n = cond (eqb n 0) None (Some n)
 
 -- How many of the n bytes from `at` on are 0x80 or above; where none is, each is a sequence by itself.
 unfoldable pub highs : ℕ → List ℕ → ℕ → ℕ

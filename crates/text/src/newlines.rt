@@ -5,23 +5,18 @@ ghost use Rattle.text.specs.Newlines.{newline_places, counted, is_range, count_n
 use crate::utf8::is_boundary;
 
 // How many newlines a range has, and the place of the last of them, or the range's end if it has none.
-#[derive(Clone, Copy)]
+#[derive(Clone, Copy, Debug, PartialEq, Eq)]
 pub struct Newlines {
     pub count: usize,
     pub place: usize,
 }
 
 // Whether a range is not reversed and has its ends on boundaries of the text.
+#[tactic(auto, using(std::proofs::lemmas::Bool::Decides::nat_tests), unfolding(crate::specs::Newlines::is_range))]
 pub fn is_range(s: &[u8], from: usize, to: usize) -> bool
     ensures { result ≡ is_range s.now from to }
 {
-    if to < from {
-        return false;
-    }
-    if is_boundary(s, from) {
-        return is_boundary(s, to);
-    }
-    false
+    from <= to && is_boundary(s, from) && is_boundary(s, to)
 }
 
 // The newlines of a range; none where it is outside the text, reversed or off a boundary.
@@ -43,16 +38,11 @@ fn newlines_between(s: &[u8], from: usize, to: usize) -> Newlines
 {
     let mut count = 0;
     let mut place = to;
-    let mut at = from;
-    while at < to {
-        if s[at] == 0x0A {
+    for at in from..to {
+        if s[at] == b'\n' {
             count += 1;
             place = at;
         }
-        at += 1;
     }
-    Newlines {
-        count: count,
-        place: place,
-    }
+    Newlines { count, place }
 }

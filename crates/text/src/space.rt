@@ -2,52 +2,20 @@
 ghost use Rattle.std.specs.Prelude.{◌≡◌, ◌≤◌, ◌<◌};
 ghost use Rattle.text.specs.Space.{is_white, trim_end, is_passed, something};
 
-use crate::utf8::{Decoded, char_at, char_before};
+use crate::utf8::{char_at, char_before};
 
-#[derive(Clone, Copy)]
-pub enum Found {
-    At(usize),
-    Nowhere,
-}
-
-// Whether a code point has the property White_Space: the ranges by their last code point, ascending.
+// Whether a code point has the property White_Space.
+#[tactic(auto, using(std::proofs::lemmas::Bool::Decides::nat_tests), unfolding(crate::specs::Space::one_of, crate::specs::Utf8::within))]
 pub fn is_whitespace(c: u32) -> bool
     ensures { result ≡ is_white c }
 {
-    if c <= 0x0D {
-        return 0x09 <= c;
+    match c {
+        0x00..=0x7F => matches!(c, 0x09..=0x0D | 0x20),
+        _ => matches!(
+            c,
+            0x85 | 0xA0 | 0x1680 | 0x2000..=0x200A | 0x2028 | 0x2029 | 0x202F | 0x205F | 0x3000
+        ),
     }
-    if c <= 0x20 {
-        return 0x20 <= c;
-    }
-    if c <= 0x85 {
-        return 0x85 <= c;
-    }
-    if c <= 0xA0 {
-        return 0xA0 <= c;
-    }
-    if c <= 0x1680 {
-        return 0x1680 <= c;
-    }
-    if c <= 0x200A {
-        return 0x2000 <= c;
-    }
-    if c <= 0x2028 {
-        return 0x2028 <= c;
-    }
-    if c <= 0x2029 {
-        return 0x2029 <= c;
-    }
-    if c <= 0x202F {
-        return 0x202F <= c;
-    }
-    if c <= 0x205F {
-        return 0x205F <= c;
-    }
-    if c <= 0x3000 {
-        return 0x3000 <= c;
-    }
-    false
 }
 
 // The end of the range from `from` to `to` without the white space at its end.
@@ -55,16 +23,11 @@ pub fn trim_end(s: &[u8], from: usize, to: usize) -> usize
     ensures { result ≡ trim_end s.now from to }
 {
     let mut end = to;
-    while from < end {
-        match char_before(s, from, end) {
-            Decoded::Nothing => return end,
-            Decoded::Char(c, n) => {
-                if !is_whitespace(c) {
-                    return end;
-                }
-                end -= n;
-            }
+    while let Some(last) = char_before(s, from, end) {
+        if !is_whitespace(last.code) {
+            break;
         }
+        end -= last.bytes;
     }
     end
 }
@@ -73,27 +36,19 @@ pub fn trim_end(s: &[u8], from: usize, to: usize) -> usize
 fn is_passed(c: u32) -> bool
     ensures { result ≡ is_passed c }
 {
-    if c == 0x0A {
-        return false;
-    }
-    is_whitespace(c)
+    c != 0x0A && is_whitespace(c)
 }
 
 // The first place from `at` on that is not white space or is a newline.
-pub fn find_something(s: &[u8], at: usize) -> Found
+pub fn find_something(s: &[u8], at: usize) -> Option<usize>
     ensures { result ≡ something s.now at }
 {
     let mut here = at;
-    while here < s.len() {
-        match char_at(s, here) {
-            Decoded::Nothing => return Found::Nowhere,
-            Decoded::Char(c, n) => {
-                if !is_passed(c) {
-                    return Found::At(here);
-                }
-                here += n;
-            }
+    while let Some(c) = char_at(s, here) {
+        if !is_passed(c.code) {
+            return Some(here);
         }
+        here += c.bytes;
     }
-    Found::Nowhere
+    None
 }

@@ -2,7 +2,7 @@
 -- Assumes nothing.
 use mathlib.Core.Path.{◌≡◌, refl}
 use mathlib.Core.List.{List, [], ◌∷◌}
-use mathlib.Core.Option.{Option, none, some}
+use Rattle.std.specs.Prelude.{Option, None, Some}
 use Prim.Native.Nat.{ℕ, ◌+◌}
 use Rattle.text.specs.Utf8.{within, row_in, followed, sequence, run, prefix, well_formed, boundary}
 use Rattle.text.specs.Newlines.{is_range}
@@ -18,8 +18,8 @@ abbrev Found : Type 0
 Found = ℕ × ℕ × SyntaxTree
 
 abbrev found : List ℕ → Read Image → Option Found
-found b (got i q) = some (i.comments, i.at, syntax_tree b i.tree)
-found b (bad n p) = none
+found b (got i q) = Some (i.comments, i.at, syntax_tree b i.tree)
+found b (bad n p) = None
 
 -- ---- the parts of the trees below
 span : ℕ → ℕ → Span
@@ -68,17 +68,17 @@ two_image =
     38 ∷ 0 ∷ 0 ∷ 0 ∷ 39 ∷ 0 ∷ 0 ∷ 0 ∷ 10 ∷ 87 ∷ 0 ∷ 0 ∷ 0 ∷ 38 ∷ 0 ∷ 0 ∷ 0 ∷ 39 ∷ 0 ∷ []
 
 one_found : found one_image (read_all one_source one_image)
-    ≡ some (0, 7, record { shebang = none; declarations = const (name 1 6 52) (u32 9 94) (digit 15) ∷ [] })
+    ≡ Some (0, 7, record { shebang = None; declarations = const (name 1 6 52) (u32 9 94) (digit 15) ∷ [] })
 unfolding one_source one_image span name u32 digit syntax_tree views
     read_all source_fits well_formed prefix run read_image header comments comments_from comment_fits read_tree tree_at record_at opens shape kind_fits_of payload_fits
     first_child row_under_of row_of children_at skips be16 be32 is_range boundary within sequence followed row_in
 one_found = refl
 
 two_found : found two_image (read_all two_source two_image)
-    ≡ some (
+    ≡ Some (
       1,
       15,
-      record { shebang = none; declarations = const (name 1 6 60) (u32 9 102) (digit 15) ∷ const (name 1 29 164) (u32 32 206) (digit 38) ∷ [] },
+      record { shebang = None; declarations = const (name 1 6 60) (u32 9 102) (digit 15) ∷ const (name 1 29 164) (u32 32 206) (digit 38) ∷ [] },
     )
 unfolding two_source two_image span name u32 digit syntax_tree views
     read_all source_fits well_formed prefix run read_image header comments comments_from comment_fits read_tree tree_at record_at opens shape kind_fits_of payload_fits

@@ -1,7 +1,6 @@
 -- Which part of the syntax tree is at which offset of the image: what the contracts of layout's code rest on. An accepted image has its whole tree
 -- at the tree's offset (proofs/Whole.antt).
-use Rattle.std.specs.Prelude.{ℕ, ◌+◌, ◌≤◌, ◌<◌, ◌≡◌, true, List, [], ◌∷◌, length, get_or}
-use Rattle.std.proofs.Math.Option.{Option, none, some}
+use Rattle.std.specs.Prelude.{ℕ, ◌+◌, ◌≤◌, ◌<◌, ◌≡◌, true, List, [], ◌∷◌, length, get_or, Option, None, Some}
 use Rattle.text.specs.Newlines.{is_range}
 use Rattle.image.specs.Bytes.{be16, be32}
 use Rattle.image.specs.Read.{stop_at, kind_at}
@@ -126,8 +125,8 @@ module _ (s b : List ℕ) where
 
   -- an optional child
   unfoldable pub Maybe : {A : Type 0} → (A → ℕ → Type 0) → Option A → ℕ → Type 0
-  Maybe P none at = Absent b at
-  Maybe P (some a) at = P a at
+  Maybe P None at = Absent b at
+  Maybe P (Some a) at = P a at
 
   -- ---- types
   unfoldable mutual

@@ -1,7 +1,6 @@
 -- The syntax tree of src/ast.rs that the records of an image are: a total function on the trees that the reader gives. Where the grammar
 -- rules a tree out, what it gives does not matter.
-use Rattle.std.specs.Prelude.{ℕ, ◌+◌, ◌-◌, List, [], ◌∷◌, Bool, true, false, cond, get_or, eqb}
-use Rattle.std.proofs.Math.Option.{Option, none, some}
+use Rattle.std.specs.Prelude.{ℕ, ◌+◌, ◌-◌, List, [], ◌∷◌, Bool, true, false, cond, get_or, eqb, Option, None, Some}
 use Rattle.image.specs.Bytes.{be16}
 use Rattle.image.specs.Read.{Head, Tree, Trees, absent, node, nil, ◌▸◌}
 use Rattle.image.specs.Kinds.{ACCESS, ASSIGN, BIN_OP, BLOCK_EXPR, COMPOUND_ASSIGN, CONST, ENUM, F_STRING, FILTER_MAP, FOR, FUNCTION}
@@ -66,7 +65,7 @@ nothing =
       path = record { first = no_ident; more = [] };
       type = type no_span unit;
       field = λ more. more;
-      import = import no_span none no_group;
+      import = import no_span None no_group;
       pattern = underscore;
       expr = e;
       entry = λ more. more;
@@ -75,7 +74,7 @@ nothing =
       block = braces no_span no_stmts no_expr;
       stmt = stmt no_span (does e);
       variant = λ more. more;
-      declaration = import_decl (import no_span none no_group);
+      declaration = import_decl (import no_span None no_group);
       idents = [];
       types = no_types;
       fields = no_fields;
@@ -108,8 +107,8 @@ fourth xs = third (rest xs)
 
 -- ---- a child that may be absent
 abbrev pub maybe : {A : Type 0} → Bool → A → Option A
-maybe true a = some a
-maybe false a = none
+maybe true a = Some a
+maybe false a = None
 
 abbrev pub maybe_args : Bool → Span → Types → TypeArgs
 maybe_args true s ts = args s ts

@@ -3,7 +3,7 @@
 -- Assumes nothing.
 use mathlib.Core.Path.{◌≡◌, refl, sym, ap, ap₂, subst₂, ◌∙◌}
 use mathlib.Core.Bool.{true, false}
-use mathlib.Core.Option.{Option, none}
+use Rattle.std.specs.Prelude.{Option, None}
 use mathlib.Core.List.{List, [], ◌∷◌, ◌++◌}
 use Prim.Native.Nat.{ℕ, ◌+◌, ◌*◌, ◌-◌, ◌≤◌, max}
 use native.Mathlib.Omega.{arith}
@@ -69,10 +69,10 @@ module _ (s b : List ℕ) where
   count = length (declared s b)
 
   -- 1 and 3
-  pub image_passes : read_refusal (read_all s b) ≡ none → render_image s b ≡ none
+  pub image_passes : read_refusal (read_all s b) ≡ None → render_image s b ≡ None
   image_passes h = go (read_all s b) refl h
     where
-      go : (r : Read Image) → read_all s b ≡ r → read_refusal r ≡ none → render_image s b ≡ none
+      go : (r : Read Image) → read_all s b ≡ r → read_refusal r ≡ None → render_image s b ≡ None
       go (bad n p) e h = let z : ◌≡◌ {A = ℕ} 0 1 = cc in absurd (omega arith)
       go (got i end) e h =
           let a = accepted s b (document_of i) (record { answer = ap outcome e }) in
@@ -121,7 +121,7 @@ module _ (s b : List ℕ) where
         sym (take-append-le (PLACES * rows_due s b c) r (drop (length r) store) (omega (arith, length_rows (built s b c).nodes 0)))
 
     -- 12
-    layout_passes : mode_line c ≡ none → (store : List ℕ) → any (layout_tests (parts_of s b) layout_args layout_fresh store) ≡ false
+    layout_passes : mode_line c ≡ None → (store : List ℕ) → any (layout_tests (parts_of s b) layout_args layout_fresh store) ≡ false
     layout_passes moded store =
         let stop = stop_tests count layout_args layout_fresh in
         let mode = mode_tests layout_args.choice layout_fresh in
@@ -140,8 +140,8 @@ module _ (s b : List ℕ) where
         (not_if (any mode) 12 0 moded))))
 
     -- ---- of a file that no line before 8 refuses
-    module _ (h : first (file_before_rows s b c) ≡ none) where
-      layout_early : (store : List ℕ) → first (before_rows (parts_of s b) layout_args layout_fresh store) ≡ none
+    module _ (h : first (file_before_rows s b c) ≡ None) where
+      layout_early : (store : List ℕ) → first (before_rows (parts_of s b) layout_args layout_fresh store) ≡ None
       layout_early store =
           let p = file_passed s b c h in
           λ t. first (p.read t ∷ refuse_if (layout_passes p.moded store t) 12 0 ∷ [])
@@ -184,11 +184,11 @@ module _ (s b : List ℕ) where
       rowed = write_front (rows (built s b c).nodes 0) store
 
       -- 11
-      rows_right : read_refusal (read_all s b) ≡ none → wrong_place s b rowed 0 (rows_due s b c) ≡ none
+      rows_right : read_refusal (read_all s b) ≡ None → wrong_place s b rowed 0 (rows_due s b c) ≡ None
       rows_right read =
           let g = (fmt_parsed_lem (read_all s b) s b).closed_in (layout_choice c) in
           (render_parts s b (read_all s b)).right_local (render_choice c) (rows (built s b c).nodes 0) rowed (rows_due s b c) (same_rows store)
-          (subst₂ (λ (x : List ℕ) (n : ℕ). wrong_place s b x 0 n ≡ none) g.rows_due_of g.row_due ((all_limited s b read).closed (layout_choice c)).right)
+          (subst₂ (λ (x : List ℕ) (n : ℕ). wrong_place s b x 0 n ≡ None) g.rows_due_of g.row_due ((all_limited s b read).closed (layout_choice c)).right)
 
       marks_due_of : marks_needed (rows_due s b c - 0) rowed 0 ≡ marks_due s b c
       marks_due_of =
@@ -219,7 +219,7 @@ module _ (s b : List ℕ) where
           (sub-zero (marks_needed (rows_due s b c - 0) rowed 0) ∙ marks_due_of)
 
       -- but for marks that are too few and too long a text, nothing refuses
-      early_due : FilePassed s b c → (marks out : List ℕ) → first (before_marks (parts_of s b) (render_args out) render_fresh rowed marks) ≡ none
+      early_due : FilePassed s b c → (marks out : List ℕ) → first (before_marks (parts_of s b) (render_args out) render_fresh rowed marks) ≡ None
       early_due p marks out =
           λ t.
           first
@@ -249,11 +249,11 @@ module _ (s b : List ℕ) where
     rendered_due = record { pen = (drawn_due s b c).pen; in_use = max 0 (marks_due s b c); row = rows_due s b c; width = c.width }
 
     -- what it answers and leaves, of what the layout call left
-    module _ (store marks out : List ℕ) (h : laid_refusal s b c (rows_in store) ≡ none) where
+    module _ (store marks out : List ℕ) (h : laid_refusal s b c (rows_in store) ≡ None) where
       left_store : store_left s b c store ≡ rowed store
       left_store = ap (λ (r : Option Refusal). unless r store (rowed store)) h
 
-      early : first (before_marks (parts_of s b) (render_args out) render_fresh (rowed store) marks) ≡ none
+      early : first (before_marks (parts_of s b) (render_args out) render_fresh (rowed store) marks) ≡ None
       early = early_due store (laid_passed s b c (rows_in store) h) marks out
 
       pub render_refusal_due : (rules_of s b).render_refusal (render_args out) render_fresh (store_left s b c store) marks
@@ -273,7 +273,7 @@ module _ (s b : List ℕ) where
           ∙ sym
           (left_to_two (file_before_marks s b c (rows_in store)) (file_marks_line s b c (length marks)) (file_text_line s b c (length out)) h)
 
-      pub render_early_due : first (before_marks (parts_of s b) (render_args out) render_fresh (store_left s b c store) marks) ≡ none
+      pub render_early_due : first (before_marks (parts_of s b) (render_args out) render_fresh (store_left s b c store) marks) ≡ None
       render_early_due =
           ap (λ (x : List ℕ). first (before_marks (parts_of s b) (render_args out) render_fresh x marks)) left_store ∙ early
 

@@ -3,7 +3,7 @@
 -- Assumes nothing.
 use mathlib.Core.Path.{◌≡◌, refl, ap}
 use mathlib.Core.Bool.{Bool, true, false, cond, not, ◌&&◌, ◌||◌}
-use mathlib.Core.Option.{none}
+use Rattle.std.specs.Prelude.{None}
 use mathlib.Core.List.{List, [], ◌∷◌}
 use Prim.Native.Nat.{ℕ, zero, suc, ◌+◌, ◌*◌, ◌-◌, ◌≤◌, ◌<◌}
 use native.Mathlib.Omega.{arith}
@@ -110,7 +110,7 @@ record Sized (s b : List ℕ) : Type 0 where
   source : length s ≤ MAX_SOURCE
   image : length b ≤ MAX_IMAGE
 
-sized : (s b : List ℕ) → render_image s b ≡ none → Sized s b
+sized : (s b : List ℕ) → render_image s b ≡ None → Sized s b
 unfolding source_fits
 sized s b e =
     let one = refuse_if (not (source_fits s)) 1 0 in

@@ -2,7 +2,7 @@
 -- `file_passed` get it, and no other proof here.
 -- Assumes nothing.
 use mathlib.Core.Path.{◌≡◌, sym, ap, ◌∙◌}
-use mathlib.Core.Option.{Option, none, some}
+use Rattle.std.specs.Prelude.{Option, None, Some}
 use mathlib.Core.List.{List, [], ◌∷◌, ◌++◌}
 use Prim.Native.Nat.{ℕ, ◌≤◌}
 use lib.Dec.{ltb}
@@ -18,18 +18,18 @@ use Rattle.whole_run.specs.File.{mode_line, file_before_rows, file_rows_line, fi
 use Rattle.whole_run.specs.File.{file_before_marks, file_before_text, laid_refusal, refusal_in}
 
 -- lines that let pass leave it to the two parts behind them
-pub left_to_two : (os ps qs : List (Option Refusal)) → first os ≡ none → first (os ++ ps ++ qs) ≡ first (ps ++ qs)
+pub left_to_two : (os ps qs : List (Option Refusal)) → first os ≡ None → first (os ++ ps ++ qs) ≡ first (ps ++ qs)
 left_to_two os ps qs e =
     first_append (os ++ ps) qs ∙ ap (λ (o : Option Refusal). or_else o (first qs)) (left_to os ps e) ∙ sym (first_append ps qs)
 
 -- 1 to 7, 12 and 15
 pub record FilePassed (s b : List ℕ) (c : FileChoice) : Type 0 where
-  pub read : read_refusal (read_all s b) ≡ none
-  pub moded : mode_line c ≡ none
-  pub legal : width_line (render_choice c) render_fresh ≡ none
+  pub read : read_refusal (read_all s b) ≡ None
+  pub moded : mode_line c ≡ None
+  pub legal : width_line (render_choice c) render_fresh ≡ None
 
 module _ (s b : List ℕ) (c : FileChoice) where
-  pub file_passed : first (file_before_rows s b c) ≡ none → FilePassed s b c
+  pub file_passed : first (file_before_rows s b c) ≡ None → FilePassed s b c
   file_passed h =
       let widths : List (Option Refusal) = width_line (render_choice c) render_fresh ∷ [] in
       let modes = passes_others (read_refusal (read_all s b)) (mode_line c ∷ widths) h in
@@ -40,8 +40,8 @@ module _ (s b : List ℕ) (c : FileChoice) where
       }
 
   -- and 8, in so many rows
-  module _ (rows : ℕ) (h : laid_refusal s b c rows ≡ none) where
-    pub before_rows : first (file_before_rows s b c) ≡ none
+  module _ (rows : ℕ) (h : laid_refusal s b c rows ≡ None) where
+    pub before_rows : first (file_before_rows s b c) ≡ None
     before_rows = passes_left (file_before_rows s b c) (file_rows_line s b c rows) h
 
     pub laid_passed : FilePassed s b c
@@ -53,11 +53,11 @@ module _ (s b : List ℕ) (c : FileChoice) where
         (not_if (ltb rows (rows_due s b c)) 8 (rows_due s b c) (passes_line _ [] (passes_right (file_before_rows s b c) (file_rows_line s b c rows) h)))
 
   -- all of them
-  module _ (rows marks room : ℕ) (h : refusal_in s b c rows marks room ≡ none) where
-    before_text : first (file_before_text s b c rows marks) ≡ none
+  module _ (rows marks room : ℕ) (h : refusal_in s b c rows marks room ≡ None) where
+    before_text : first (file_before_text s b c rows marks) ≡ None
     before_text = passes_left (file_before_text s b c rows marks) (file_text_line s b c room) h
 
-    pub before_marks_lem : laid_refusal s b c rows ≡ none
+    pub before_marks_lem : laid_refusal s b c rows ≡ None
     before_marks_lem = passes_left (file_before_marks s b c rows) (file_marks_line s b c marks) before_text
 
     pub marks_fit : marks_due s b c ≤ marks
@@ -73,10 +73,10 @@ module _ (s b : List ℕ) (c : FileChoice) where
 
   -- a refusal of the first lines, or of layout, is one of the whole
   module _ (r : Refusal) (rows : ℕ) where
-    pub stops_laid : first (file_before_rows s b c) ≡ some r → laid_refusal s b c rows ≡ some r
+    pub stops_laid : first (file_before_rows s b c) ≡ Some r → laid_refusal s b c rows ≡ Some r
     stops_laid e = refuses_left r (file_before_rows s b c) (file_rows_line s b c rows) e
 
-    pub stops_whole : (marks room : ℕ) → laid_refusal s b c rows ≡ some r → refusal_in s b c rows marks room ≡ some r
+    pub stops_whole : (marks room : ℕ) → laid_refusal s b c rows ≡ Some r → refusal_in s b c rows marks room ≡ Some r
     stops_whole marks room e =
         refuses_left r (file_before_text s b c rows marks) (file_text_line s b c room)
         (refuses_left r (file_before_marks s b c rows) (file_marks_line s b c marks) e)

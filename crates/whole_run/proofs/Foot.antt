@@ -2,7 +2,7 @@
 -- Assumes nothing.
 use mathlib.Core.Path.{◌≡◌, refl, sym, ap, ap₂, subst₂, ◌∙◌}
 use mathlib.Core.Bool.{Bool, true, not}
-use mathlib.Core.Option.{Option, none, some}
+use Rattle.std.specs.Prelude.{Option, None, Some}
 use mathlib.Core.List.{List, [], ◌∷◌}
 use Prim.Native.Nat.{ℕ, ◌-◌}
 use native.Mathlib.Omega.{arith}
@@ -38,15 +38,15 @@ module _ (s b : List ℕ) where
   abbrev ds : List Declaration
   ds = (accepted_tree b (read_all s b)).declarations
 
-  pub list : read_refusal (read_all s b) ≡ none → Listed s b
+  pub list : read_refusal (read_all s b) ≡ None → Listed s b
   list h = go (read_all s b) refl h
     where
-      go : (r : Read Image) → read_all s b ≡ r → read_refusal r ≡ none → Listed s b
+      go : (r : Read Image) → read_all s b ≡ r → read_refusal r ≡ None → Listed s b
       go (bad n p) e h = let z : ◌≡◌ {A = ℕ} 0 1 = cc in absurd (omega arith)
       go (got i end) e h = accepted_listed s b (document_of i) (record { answer = ap outcome e })
 
   -- ---- one call
-  placed_all : (rows : ℕ) (q : LayoutArgs LayoutChoice) (z : LayoutState) → read_refusal (read_all s b) ≡ none
+  placed_all : (rows : ℕ) (q : LayoutArgs LayoutChoice) (z : LayoutState) → read_refusal (read_all s b) ≡ None
       → LayoutFits (length ds) (length (comments_of b)) (length s) rows q z
       → q.close ≡ true
       → q.choice.mode ≡ NEW_MODE
@@ -70,21 +70,21 @@ module _ (s b : List ℕ) where
 
   -- ---- a list of calls
   record NoneLeft (w : Carried (rules_of s b)) : Type 0 where
-    none_left : w.layout_state_of.closed ≡ true → w.layout_state_of.mode ≡ NEW_MODE → w.left ≡ some 0
+    none_left : w.layout_state_of.closed ≡ true → w.layout_state_of.mode ≡ NEW_MODE → w.left ≡ Some 0
 
   after : (w : Carried (rules_of s b)) (c : Call (rules_of s b)) → NoneLeft w → NoneLeft (call (rules_of s b) w c)
   after w (layout_call q) h = go (refusal (rules_of s b) w (layout_call q)) refl
     where
       go : (o : Option Refusal) → refusal (rules_of s b) w (layout_call q) ≡ o → NoneLeft (unless o w (accepted (rules_of s b) w (layout_call q)))
-      go (some r) e = h
-      go none e =
+      go (Some r) e = h
+      go None e =
           let t = layout_told (parts_of s b) q w.layout_state_of w.store e in
-          record { none_left = λ x y. ap some (placed_all (rows_in w.store) q w.layout_state_of t.image t.fits x y).left }
+          record { none_left = λ x y. ap Some (placed_all (rows_in w.store) q w.layout_state_of t.image t.fits x y).left }
   after w (render_call q) h = go (refusal (rules_of s b) w (render_call q))
     where
       go : (o : Option Refusal) → NoneLeft (unless o w (accepted (rules_of s b) w (render_call q)))
-      go (some r) = h
-      go none = record { none_left = h.none_left }
+      go (Some r) = h
+      go None = record { none_left = h.none_left }
 
   after_all : (calls : List (Call (rules_of s b))) (w : Carried (rules_of s b)) → NoneLeft w → NoneLeft (run (rules_of s b) w calls)
   after_all [] w h = h

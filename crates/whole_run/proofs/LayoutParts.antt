@@ -3,7 +3,7 @@
 -- Assumes nothing.
 use mathlib.Core.Path.{◌≡◌, refl, sym, ap, ap₂, ◌∙◌}
 use mathlib.Core.Bool.{false}
-use mathlib.Core.Option.{Option, none as nothing, some}
+use Rattle.std.specs.Prelude.{Option, None as nothing, Some}
 use mathlib.Core.List.{List, [], ◌++◌}
 use Prim.Native.Nat.{ℕ, ◌+◌, ◌-◌, ◌*◌, ◌≤◌}
 use native.Mathlib.Omega.{arith}
@@ -113,7 +113,7 @@ module _ (s b : List ℕ) where
 
   places_one : (n : ℕ) (d : Option Declaration) → StepPlaces g (declaration_act s b n d)
   places_one n nothing = places_skip
-  places_one n (some d) = places_declaration g d _
+  places_one n (Some d) = places_declaration g d _
 
   pub comment_parts : (r : Read Image) → CommentPartLaws (parts_by r s b) (listed s b)
   comment_parts r =

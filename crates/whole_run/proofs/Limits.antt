@@ -3,7 +3,7 @@
 -- Assumes nothing.
 use mathlib.Core.Path.{◌≡◌, refl, sym, ap, subst, subst₂, ◌∙◌}
 use mathlib.Core.Bool.{true, false}
-use mathlib.Core.Option.{none}
+use Rattle.std.specs.Prelude.{None}
 use mathlib.Core.List.{List}
 use Prim.Native.Nat.{ℕ, ◌+◌, ◌*◌, ◌≤◌}
 use native.Mathlib.Omega.{arith}
@@ -54,10 +54,10 @@ module _ (s b : List ℕ) where
     pub at : ℕ
     pub stood : Stands g (accepted_tree b r) at
 
-  pub stood : read_refusal (read_all s b) ≡ none → Stood (read_all s b)
+  pub stood : read_refusal (read_all s b) ≡ None → Stood (read_all s b)
   stood h = go (read_all s b) refl h
     where
-      go : (r : Read Image) → read_all s b ≡ r → read_refusal r ≡ none → Stood (read_all s b)
+      go : (r : Read Image) → read_all s b ≡ r → read_refusal r ≡ None → Stood (read_all s b)
       go (bad n p) e h = let z : ◌≡◌ {A = ℕ} 0 1 = cc in absurd (omega arith)
       go (got i end) e h = record { at = i.at; stood = standing (document_of i) (record { answer = ap outcome e }) }
 
@@ -70,7 +70,7 @@ module _ (s b : List ℕ) where
       let n : sizes o.nodes * PLACES ≤ length (rows o.nodes 0) = omega (arith, length_rows o.nodes 0) in
       record {
         right =
-            subst₂ (λ (x : List ℕ) (k : ℕ). wrong_place s b x 0 k ≡ none) (sym e.rows_due_of) (zero-add (sizes o.nodes) ∙ sym e.row_due)
+            subst₂ (λ (x : List ℕ) (k : ℕ). wrong_place s b x 0 k ≡ None) (sym e.rows_due_of) (zero-add (sizes o.nodes) ∙ sym e.row_due)
             (due_passes a.stood w (rows o.nodes 0) (held (rows o.nodes 0)) n);
         rows_few = omega (arith, e.row_due, w.rows);
         numbers_few = omega (arith, e.number_due, w.numbers);
@@ -91,5 +91,5 @@ module _ (s b : List ℕ) where
         closed = λ k. limited r a _ _ (f.closed_in k) (closed_within a.stood (keeps_waiting k.mode));
       }
 
-  pub all_limited : read_refusal (read_all s b) ≡ none → AllLimited (read_all s b) s b (accepted_tree b (read_all s b))
+  pub all_limited : read_refusal (read_all s b) ≡ None → AllLimited (read_all s b) s b (accepted_tree b (read_all s b))
   all_limited h = limited_by (read_all s b) (stood h)

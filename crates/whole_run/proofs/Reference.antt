@@ -3,7 +3,7 @@
 -- Assumes nothing.
 use mathlib.Core.Logic.{◌⊎◌, inl, inr}
 use mathlib.Core.Path.{◌≡◌, refl, ap}
-use mathlib.Core.Option.{Option, none}
+use Rattle.std.specs.Prelude.{Option, None}
 use mathlib.Core.List.{List, [], ◌∷◌}
 use Prim.Native.Nat.{ℕ, ◌-◌}
 use lib.Dec.{ltb}
@@ -20,7 +20,7 @@ use Rattle.whole_run.specs.Parts.{render_image}
 use Rattle.whole_run.specs.Reference.{at_reference, FileAsBefore, call_drawn, CallAsBefore, ReferenceHolds}
 
 -- 15 never refuses 80 where none or 80 is carried
-pub never_15 : (carried : ℕ) → (carried ≡ 0) ⊎ (carried ≡ REFERENCE_WIDTH) → refuse_if (any (width_tests REFERENCE_WIDTH carried)) 15 0 ≡ none
+pub never_15 : (carried : ℕ) → (carried ≡ 0) ⊎ (carried ≡ REFERENCE_WIDTH) → refuse_if (any (width_tests REFERENCE_WIDTH carried)) 15 0 ≡ None
 never_15 carried (inl e) = ap (λ (w : ℕ). refuse_if (any (width_tests REFERENCE_WIDTH w)) 15 0) e
 never_15 carried (inr e) = ap (λ (w : ℕ). refuse_if (any (width_tests REFERENCE_WIDTH w)) 15 0) e
 

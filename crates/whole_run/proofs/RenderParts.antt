@@ -3,7 +3,7 @@
 -- Assumes nothing.
 use mathlib.Core.Path.{◌≡◌, sym, ap, ap₂, subst, ◌∙◌}
 use mathlib.Core.Bool.{true}
-use mathlib.Core.Option.{none}
+use Rattle.std.specs.Prelude.{None}
 use mathlib.Core.List.{List, [], ◌++◌, append-nil}
 use Prim.Native.Nat.{ℕ, ◌+◌, ◌-◌, ◌≤◌, max}
 use native.Mathlib.Omega.{arith}
@@ -87,7 +87,7 @@ module _ (s b : List ℕ) where
 
   -- to the stop of p, and on to row m
   draw_on : (z : RenderState) (p : RenderTo RenderChoice) (m : ℕ) (marks store : List ℕ) → z.row ≤ p.stop → p.stop ≤ m
-      → wrong_place s b store z.row p.stop ≡ none → needed store 0 m ≤ length marks
+      → wrong_place s b store z.row p.stop ≡ None → needed store 0 m ≤ length marks
       → drawn s b z (record { stop = m; choice = p.choice }) marks store
       ≡ then_drawn (drawn s b z p marks store) (λ ms.
       drawn_by (render_nodes (page p.choice s b) (nodes_at (view_of store) p.stop m) true (renderer_of (drawn s b z p marks store).pen ms)))
@@ -101,13 +101,13 @@ module _ (s b : List ℕ) where
       (subst (λ (k : ℕ). Unders k ns) (sym (renders_length y (nodes_at v z.row p.stop) true r)) (under_marks store marks p.stop m g))
 
   draw_join : (z t : RenderState) (p q : RenderTo RenderChoice) (marks store : List ℕ) → z.row ≡ 0 → RenderAfter p q
-      → wrong_place s b store 0 p.stop ≡ none → needed store 0 q.stop ≤ length marks → StoppedAt p.stop (drawn s b z p marks store) t
+      → wrong_place s b store 0 p.stop ≡ None → needed store 0 q.stop ≤ length marks → StoppedAt p.stop (drawn s b z p marks store) t
       → drawn s b z q marks store ≡ then_drawn (drawn s b z p marks store) (λ ms. drawn s b t q ms store)
   draw_join z t p q marks store start a e g there =
       let row = sym there.row in
       let pen = sym there.pen in
       ap (λ (c : RenderChoice). drawn s b z (record { stop = q.stop; choice = c }) marks store) (sym a.same)
-      ∙ draw_on z p q.stop marks store (omega (arith, start)) a.not_past (subst (λ (i : ℕ). wrong_place s b store i p.stop ≡ none) (sym start) e) g
+      ∙ draw_on z p q.stop marks store (omega (arith, start)) a.not_past (subst (λ (i : ℕ). wrong_place s b store i p.stop ≡ None) (sym start) e) g
       ∙ (λ i.
       then_drawn (drawn s b z p marks store)
       (λ ms. drawn_by (render_nodes (page (a.same i) s b) (nodes_at (view_of store) (row i) q.stop) true (renderer_of (pen i) ms))))

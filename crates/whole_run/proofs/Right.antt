@@ -3,7 +3,7 @@
 -- Assumes nothing.
 use mathlib.Core.Path.{◌≡◌, refl, sym, ap, subst, ◌∙◌}
 use mathlib.Core.Bool.{Bool, true, false, cond, ◌&&◌}
-use mathlib.Core.Option.{Option, none, some}
+use Rattle.std.specs.Prelude.{Option, None, Some}
 use mathlib.Core.List.{List}
 use Prim.Native.Nat.{ℕ, zero, suc, ◌*◌, ◌-◌, ◌≤◌, ◌<◌}
 use native.Mathlib.Omega.{arith}
@@ -26,25 +26,25 @@ use Rattle.whole_run.proofs.Local.{nests_local, rows_same, places_same}
 -- ---- the places of rows with nothing wrong are right
 module _ (places : ℕ → Bool) (v : View) where
   fit_row : (end d i k : ℕ) (a c : Bool) (r t : Option ℕ) → ltb i end ≡ a → row_fits_of places v end d i ≡ c
-      → cond a (cond c (or_later r t) (some i)) none ≡ none
+      → cond a (cond c (or_later r t) (Some i)) None ≡ None
       → i ≤ k
       → k < end
-      → (RangeIn v i end → r ≡ none → suc i ≤ k → k < v.after i → places k ≡ true)
-      → (RangeIn v i end → t ≡ none → v.after i ≤ k → places k ≡ true)
+      → (RangeIn v i end → r ≡ None → suc i ≤ k → k < v.after i → places k ≡ true)
+      → (RangeIn v i end → t ≡ None → v.after i ≤ k → places k ≡ true)
       → places k ≡ true
   fit_row end d i k true true r t p q e l h f g =
       let x = no_wrong r t e in
       let y = fits_row places v end d i q in
       go y.within y.fit x.0 x.1 (dec_lt i k) (dec_lt k (v.after i))
     where
-      go : RangeIn v i end → places i ≡ true → r ≡ none → t ≡ none → Dec (i < k) → Dec (k < v.after i) → places k ≡ true
+      go : RangeIn v i end → places i ≡ true → r ≡ None → t ≡ None → Dec (i < k) → Dec (k < v.after i) → places k ≡ true
       go w y a c (no m) n = let z : i ≡ k = omega arith in subst (λ (j : ℕ). places j ≡ true) z y
       go w y a c (yes m) (yes n) = f w a m n
       go w y a c (yes m) (no n) = g w c (omega arith)
   fit_row end d i k true false r t p q e l h f g = absurd (never i e)
   fit_row end d i k false c r t p q e l h f g = absurd (let z = ltb-false i end p in omega arith)
 
-  fit : (f end d i k : ℕ) → first_wrong f places v end d i ≡ none → end - i ≤ f → i ≤ k → k < end → places k ≡ true
+  fit : (f end d i k : ℕ) → first_wrong f places v end d i ≡ None → end - i ≤ f → i ≤ k → k < end → places k ≡ true
   unfolding first_wrong
   fit zero end d i k e l p q = absurd (omega arith)
   fit (suc f) end d i k e l p q =
@@ -61,7 +61,7 @@ module _ (places : ℕ → Bool) (v : View) where
       (λ w x m n. fit f (v.after i) (suc d) (suc i) k x (omega (arith, w.up, w.to)) m n)
       (λ w x m. fit f end d (v.after i) k x (omega (arith, w.up)) m q)
 
-  accepted_places : (end d i k : ℕ) → wrong_row_of places v end d i ≡ none → i ≤ k → k < end → places k ≡ true
+  accepted_places : (end d i k : ℕ) → wrong_row_of places v end d i ≡ None → i ≤ k → k < end → places k ≡ true
   unfolding wrong_row_of
   accepted_places end d i k e p q = fit (end - i) end d i k e (omega arith) p q
 
@@ -73,12 +73,12 @@ pub record Right (s b store : List ℕ) (i n : ℕ) : Type 0 where
   pub places : (k : ℕ) → i ≤ k → k < n → places_fit s b store k ≡ true
 
 module _ (s b : List ℕ) where
-  pub right : (store : List ℕ) (i n : ℕ) → i ≤ n → wrong_place s b store i n ≡ none → Right s b store i n
+  pub right : (store : List ℕ) (i n : ℕ) → i ≤ n → wrong_place s b store i n ≡ None → Right s b store i n
   unfolding wrong_place
   right store i n h e = go (leb n MAX_ROWS && leb (n * PLACES) (length store)) refl e
     where
       go : (c : Bool) → (leb n MAX_ROWS && leb (n * PLACES) (length store)) ≡ c
-          → cond c (wrong_row_of (places_fit s b store) (view_of store) n 0 i) (some 0) ≡ none
+          → cond c (wrong_row_of (places_fit s b store) (view_of store) n 0 i) (Some 0) ≡ None
           → Right s b store i n
       go true q e =
           let x = both (leb n MAX_ROWS) (leb (n * PLACES) (length store)) q in
@@ -90,7 +90,7 @@ module _ (s b : List ℕ) where
           }
       go false q e = absurd (never 0 e)
 
-  pub none_found : (store : List ℕ) (i n : ℕ) → Right s b store i n → wrong_place s b store i n ≡ none
+  pub none_found : (store : List ℕ) (i n : ℕ) → Right s b store i n → wrong_place s b store i n ≡ None
   unfolding wrong_place
   none_found store i n r =
       rw (le-leb n MAX_ROWS r.few, le-leb (n * PLACES) (length store) r.room)

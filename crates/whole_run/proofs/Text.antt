@@ -2,7 +2,7 @@
 -- Assumes nothing.
 use mathlib.Core.Path.{◌≡◌, refl, sym, ap, ap₂, subst, subst₂, ◌∙◌}
 use mathlib.Core.Bool.{true}
-use mathlib.Core.Option.{Option, none, some}
+use Rattle.std.specs.Prelude.{Option, None, Some}
 use mathlib.Core.List.{List, [], ◌++◌, append-nil}
 use Prim.Native.Nat.{ℕ, ◌*◌, ◌-◌, ◌≤◌}
 use native.Mathlib.Omega.{arith}
@@ -93,7 +93,7 @@ module _ (s b : List ℕ) where
     within : (built s b c).placed ≤ length (comments_of b)
     within = ((places_whole (given s b) (tree s b) (keeps_waiting c.mode)).from fresh (omega arith)).within
 
-    all_placed : read_refusal (read_all s b) ≡ none → c.mode ≡ NEW_MODE → (built s b c).placed ≡ length (listed s b)
+    all_placed : read_refusal (read_all s b) ≡ None → c.mode ≡ NEW_MODE → (built s b c).placed ≡ length (listed s b)
     all_placed h new =
         ap (λ (m : ℕ). (built s b (record { width = c.width; mode = m })).placed) new
         ∙ (call_places (list s b h) (tree s b) true ds true fresh (omega arith)).placed
@@ -151,8 +151,8 @@ module _ (s b : List ℕ) where
   due_nodes : (o : Option (LayoutArgs LayoutChoice))
       → LaidFits (parts_of s b) (layout_parts (read_all s b) s b) (render_parts s b (read_all s b)) o → LaidNodes (layout_due (rules_of s b) o)
   unfolding pieces comments_among tokens_among CommasChosen declarations_tokens
-  due_nodes none k = record { nodes = no_nodes; read = nodes_none _ 0 0 (omega arith); size = refl; chosen = tt; comments = refl; others = refl }
-  due_nodes (some q) k = laid_nodes q k.to
+  due_nodes None k = record { nodes = no_nodes; read = nodes_none _ 0 0 (omega arith); size = refl; chosen = tt; comments = refl; others = refl }
+  due_nodes (Some q) k = laid_nodes q k.to
 
   -- ---- the rows rendered
   -- They nest, and the text is made of their pieces, where their `IfWrap`s choose between a comma and nothing.
@@ -165,12 +165,12 @@ module _ (s b : List ℕ) where
       → RenderedRight (parts_of s b) (layout_parts (read_all s b) s b) (render_parts s b (read_all s b)) store d
       → ShownNodes store (render_due (rules_of s b) store d)
   unfolding pieces
-  shown_nodes store none k = record {
+  shown_nodes store None k = record {
     room = omega arith;
     nests = over refl;
     made = λ chosen. subst (λ (ns : Nodes). MadeOf (text_bytes s b) (pieces ns) []) (sym (nodes_none (view_of store) 0 0 (omega arith))) (rest nothing);
   }
-  shown_nodes store (some p) k = record {
+  shown_nodes store (Some p) k = record {
     room = k.0;
     nests = (right s b store 0 p.stop (omega arith) k.1).nests;
     made = λ chosen. drawn_made (nodes_at (view_of store) 0 p.stop) chosen p.choice render_fresh.pen _;
@@ -235,8 +235,8 @@ module _ (s b : List ℕ) where
   all_said : (o : Option (LayoutArgs LayoutChoice)) → LaidFits (parts_of s b) (layout_parts (read_all s b) s b) (render_parts s b (read_all s b)) o
       → (layout_due (rules_of s b) o).state.closed ≡ true
       → program_to s b (layout_due (rules_of s b) o).state ≡ tokens_of b (tree s b)
-  all_said none k h = let z : ◌≡◌ {A = ℕ} 0 1 = cc in absurd (omega arith)
-  all_said (some q) k h =
+  all_said None k h = let z : ◌≡◌ {A = ℕ} 0 1 = cc in absurd (omega arith)
+  all_said (Some q) k h =
       ap (λ (n : ℕ). shebang_tokens b (tree s b).shebang & declarations_tokens (take n ds)) (k.closes_at_end h)
       ∙ ap (λ (l : List Declaration). shebang_tokens b (tree s b).shebang & declarations_tokens l) (take_all (length ds) ds (omega arith))
 

@@ -3,7 +3,7 @@
 -- Assumes nothing.
 use mathlib.Core.Path.{◌≡◌, refl, sym, ap, ap₂, subst, ◌∙◌}
 use mathlib.Core.Bool.{Bool, true, false, not}
-use mathlib.Core.Option.{Option, none as nothing, some}
+use Rattle.std.specs.Prelude.{Option, None as nothing, Some}
 use mathlib.Core.List.{List, [], ◌∷◌, ◌++◌, append_assoc, append-nil}
 use Prim.Native.Nat.{ℕ, zero, suc, ◌+◌, ◌-◌, ◌≤◌, ◌<◌}
 use native.Mathlib.Omega.{arith}
@@ -86,7 +86,7 @@ flag_false (suc n) = refl
 
 abbrev one : Given → Bool → Option Declaration → Act
 one g first nothing = skip
-one g first (some d) = declaration g d first
+one g first (Some d) = declaration g d first
 
 module _ (g : Given) where
   more : (n : ℕ) (ds : List Declaration) (first : Bool) (c : Cursor) → n < length ds
@@ -122,7 +122,7 @@ module _ (r : Read Image) (s b : List ℕ) where
 
   same_act : (k : ℕ) (first : Bool) (d : Option Declaration) → eqb k 0 ≡ first → declaration_act s b k d ≡ one g first d
   same_act k first nothing e = refl
-  same_act k first (some d) e = ap (declaration g d) e
+  same_act k first (Some d) e = ap (declaration g d) e
 
   at_place : (d n : ℕ) → declaration_act s b (d + n) (nth ds (d + n)) ≡ one g (flag n (eqb d 0)) (nth (drop d ds) n)
   at_place d n = same_act (d + n) (flag n (eqb d 0)) (nth ds (d + n)) (flag_at d n) ∙ ap (one g (flag n (eqb d 0))) (sym (nth_drop d ds n))

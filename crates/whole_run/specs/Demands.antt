@@ -1,7 +1,6 @@
 -- What is claimed of the rules; proofs/Demands.antt proves it, and nothing is assumed. The demands of the functions, by what they promise, are
 -- in crates/demands/specs; they rest on these. The marked edges are in Edges.antt, a whole file in File.antt.
-use Rattle.std.specs.Prelude.{◌≡◌, true, false, List, ℕ, ◌-◌, ◌≤◌, length, take}
-use Rattle.std.proofs.Math.Option.{none}
+use Rattle.std.specs.Prelude.{◌≡◌, true, false, List, ℕ, ◌-◌, ◌≤◌, length, take, None}
 use Rattle.image.specs.Read.{Read, Image, read_all, read_refusal}
 use Rattle.ast.specs.Syntax.{SyntaxTree}
 use Rattle.rows.specs.Limits.{MAX_ROWS, MAX_NUMBER}
@@ -80,7 +79,7 @@ DueIsFmtParsed = (r : Read Image) (s b : List ℕ) → FmtParsed r s b (accepted
 -- It is within document 01's limits: 11 finds nothing wrong with its rows ("That no accepted tree yields deeper rows is proved"), and 12 none of
 -- its numbers too large.
 pub record Limited (s b : List ℕ) (l : LayoutResult LayoutState) : Type 0 where
-  pub right : wrong_place s b l.rows 0 l.state.cursor.row ≡ none
+  pub right : wrong_place s b l.rows 0 l.state.cursor.row ≡ None
   pub rows_few : l.state.cursor.row ≤ MAX_ROWS
   pub numbers_few : l.state.cursor.number ≤ MAX_NUMBER
   pub position_in : l.state.cursor.position ≤ length s
@@ -91,4 +90,4 @@ pub record AllLimited (r : Read Image) (s b : List ℕ) (t : SyntaxTree) : Type 
   pub closed : (k : LayoutChoice) → Limited s b (laid_to r s b (closing_at k (length t.declarations)))
 
 abbrev pub LaidWithinLimits : Type 0
-LaidWithinLimits = (s b : List ℕ) → read_refusal (read_all s b) ≡ none → AllLimited (read_all s b) s b (accepted_tree b (read_all s b))
+LaidWithinLimits = (s b : List ℕ) → read_refusal (read_all s b) ≡ None → AllLimited (read_all s b) s b (accepted_tree b (read_all s b))

@@ -1,7 +1,6 @@
 -- The edges that document 01 marks with *, as a single list, with the second answers of document 02's request 4. Each is run by the rules of the
 -- two calls at 80 columns, refusals included. Below them is the edge of a line at other widths.
-use Rattle.std.specs.Prelude.{◌≡◌, List, [], ◌∷◌, ◌++◌, map, Bool, ℕ, zero, suc, ◌+◌, ◌<◌, length, replicate}
-use Rattle.std.proofs.Math.Option.{Option, none, some}
+use Rattle.std.specs.Prelude.{◌≡◌, List, [], ◌∷◌, ◌++◌, map, Bool, ℕ, zero, suc, ◌+◌, ◌<◌, length, replicate, Option, None, Some}
 use Rattle.image.specs.Write.{Plain, Plains, without, plainly, done, ◌next◌, bytes4, framed, written}
 use Rattle.ast.specs.Syntax.{Span}
 use Rattle.rows.specs.Ascii.{bytes}
@@ -84,7 +83,7 @@ renders_at width e =
       layout_state_of = layout_fresh;
       render_state_of = record { pen = record { indent = e.indent; next_indent = 0; column = record { 0 = e.column } }; in_use = 0; row = 0; width = 0 };
       text = [];
-      left = none;
+      left = None;
     } in
     seen e.source no_body (run r w (render_call (record { to = record { stop = sizes e.nodes; choice = record { width = width } }; room = 300 }) ∷ []))
 
@@ -121,7 +120,7 @@ edge_due (rendering e) = record {
   rows = 0;
   kinds = [];
   numbers = 0;
-  left = none;
+  left = None;
   rendered = sizes e.nodes;
   text = e.text;
   size = length e.text;
@@ -130,7 +129,7 @@ edge_due (file f) = record {
   rows = f.rows;
   kinds = f.kinds;
   numbers = f.numbers;
-  left = some f.left;
+  left = Some f.left;
   rendered = f.rows;
   text = f.text;
   size = f.size;

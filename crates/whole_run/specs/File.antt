@@ -1,8 +1,7 @@
 -- The whole run of one file: one layout call from fresh up to the last declaration, closing; then one rendering call from fresh up to the last
 -- row. What it answers and leaves is told here by the layout rules and `Renderer` alone (Built.antt), in the mode and at the width that its caller
 -- chooses; proofs/File.antt has that the two calls give it, and proves the claims at the end.
-use Rattle.std.specs.Prelude.{◌≡◌, List, [], ◌∷◌, ◌++◌, ℕ, ◌-◌, ltb, length}
-use Rattle.std.proofs.Math.Option.{Option}
+use Rattle.std.specs.Prelude.{◌≡◌, List, [], ◌∷◌, ◌++◌, ℕ, ◌-◌, ltb, length, Option}
 use Rattle.image.specs.Read.{read_all, read_refusal}
 use Rattle.rows.specs.Rows.{rows}
 use Rattle.tree.specs.CommentList.{comments_of}

@@ -1,7 +1,6 @@
 -- What a file can give at most in the program's 1,800 rows: the bytes of its text, and the greatest value that `column` takes. proofs/FileLimits.antt
 -- proves it, and nothing is assumed.
-use Rattle.std.specs.Prelude.{◌≡◌, true, List, ℕ, ◌+◌, ◌*◌, ◌≤◌, length, get_or}
-use Rattle.std.proofs.Math.Option.{none}
+use Rattle.std.specs.Prelude.{◌≡◌, true, List, ℕ, ◌+◌, ◌*◌, ◌≤◌, length, get_or, None}
 use Rattle.image.specs.Limits.{MAX_BODY}
 use Rattle.rows.specs.View.{view_of, nodes_at}
 use Rattle.renderer_rules.specs.Renderer.{render_nodes}
@@ -28,12 +27,12 @@ FILE_COLUMN = file_rows * MAX_IMAGE
 -- So it is of rows that 1, 3 and 11 let pass, whoever laid them, at any width of a line, with any marks.
 abbrev pub RowsTextLimited : Type 0
 RowsTextLimited =
-    (max : ℕ) (s b store marks : List ℕ) (n : ℕ) → n ≤ file_rows → render_image s b ≡ none → wrong_place s b store 0 n ≡ none
+    (max : ℕ) (s b store marks : List ℕ) (n : ℕ) → n ≤ file_rows → render_image s b ≡ None → wrong_place s b store 0 n ≡ None
     → length (render_nodes (page_of max s b) (nodes_at (view_of store) 0 n) true (renderer_of render_fresh.pen marks)).buf ≤ FILE_TEXT
 
 -- of a file that 1 to 7, 12, 15 and 8 let pass
 abbrev pub FileTextLimited : Type 0
-FileTextLimited = (s b : List ℕ) (c : FileChoice) → laid_refusal s b c file_rows ≡ none → length (drawn_due s b c).text ≤ FILE_TEXT
+FileTextLimited = (s b : List ℕ) (c : FileChoice) → laid_refusal s b c file_rows ≡ None → length (drawn_due s b c).text ≤ FILE_TEXT
 
 -- each number is a byte, as what is lent as bytes holds: a width in two of them is 65,535 at most
 abbrev pub AreBytes : List ℕ → Type 0
@@ -42,5 +41,5 @@ AreBytes l = (i : ℕ) → get_or l i 0 ≤ 255
 -- of a file that 1 to 7, 12, 15 and 8 let pass, at any width of a line, with any marks
 abbrev pub FileColumnLimited : Type 0
 FileColumnLimited =
-    (max : ℕ) (s b marks : List ℕ) (c : FileChoice) → AreBytes b → laid_refusal s b c file_rows ≡ none
+    (max : ℕ) (s b marks : List ℕ) (c : FileChoice) → AreBytes b → laid_refusal s b c file_rows ≡ None
     → greatest_column (page_of max s b) (built s b c).nodes marks ≤ FILE_COLUMN

@@ -1,6 +1,5 @@
 -- Closing in the new mode: "Our house rule now keeps them all" (document 02, 4). proofs/Foot.antt proves both claims, and nothing is assumed.
-use Rattle.std.specs.Prelude.{◌≡◌, true, false, List, ℕ, length}
-use Rattle.std.proofs.Math.Option.{none, some}
+use Rattle.std.specs.Prelude.{◌≡◌, true, false, List, ℕ, length, None, Some}
 use Rattle.image.specs.Read.{read_all, read_refusal}
 use Rattle.refusals.specs.Refusals.{any}
 use Rattle.cut_rule.specs.Rules.{LayoutArgs, LayoutResult}
@@ -21,7 +20,7 @@ pub record AllPlaced (s b : List ℕ) (l : LayoutResult LayoutState) : Type 0 wh
 abbrev pub ClosingPlacesAll : Type 0
 ClosingPlacesAll =
     (s b store : List ℕ) (q : LayoutArgs LayoutChoice) (z : LayoutState)
-    → read_refusal (read_all s b) ≡ none
+    → read_refusal (read_all s b) ≡ None
     → any (layout_tests (parts_of s b) q z store) ≡ false
     → q.close ≡ true
     → q.choice.mode ≡ NEW_MODE
@@ -30,7 +29,7 @@ ClosingPlacesAll =
 -- the comments among the rows laid out are those of the list, in order, each once, trailing white space cut; none is left
 pub record HoldsAll (s b : List ℕ) (w : Carried (rules_of s b)) : Type 0 where
   pub all : comments_in w.store w.layout_state_of.cursor.row ≡ listed s b
-  pub left : w.left ≡ some 0
+  pub left : w.left ≡ Some 0
 
 -- "In the new mode a document closed by calls from fresh holds the whole list, 0 left": whatever the calls were, and whatever store and marks
 -- held at first.

@@ -1,7 +1,6 @@
 -- Document 01's rules for one source s and one image b, as the cut rule takes them. Each part is a definition of a lower layer; here they are
 -- only put together.
-use Rattle.std.specs.Prelude.{Bool, true, not, List, [], ◌∷◌, map, ℕ, ◌+◌, ◌-◌, eqb, length}
-use Rattle.std.proofs.Math.Option.{Option, none, some}
+use Rattle.std.specs.Prelude.{Bool, true, not, List, [], ◌∷◌, map, ℕ, ◌+◌, ◌-◌, eqb, length, Option, None, Some}
 use Rattle.text.specs.Space.{trim_end}
 use Rattle.image.specs.Read.{Read, got, bad, Image, header, source_fits, read_all, read_refusal}
 use Rattle.ast.specs.Syntax.{Declaration, SyntaxTree}
@@ -29,7 +28,7 @@ use Rattle.cut_rule.specs.Parts.{Piece, Drawn, RuleParts}
 -- the syntax tree of an accepted image; nothing is laid out of another
 abbrev pub accepted_tree : List ℕ → Read Image → SyntaxTree
 accepted_tree b (got i end) = syntax_tree b i.tree
-accepted_tree b (bad n p) = record { shebang = none; declarations = [] }
+accepted_tree b (bad n p) = record { shebang = None; declarations = [] }
 
 -- "rendering 1, 3 by the same tests"
 abbrev pub render_image : List ℕ → List ℕ → Option Refusal
@@ -51,8 +50,8 @@ act_piece a c =
 
 -- a declaration; `first` of `fmt_parsed` is that the next declaration is 0
 abbrev pub declaration_act : List ℕ → List ℕ → ℕ → Option Declaration → Act
-declaration_act s b n none = skip
-declaration_act s b n (some d) = declaration (given s b) d (eqb n 0)
+declaration_act s b n None = skip
+declaration_act s b n (Some d) = declaration (given s b) d (eqb n 0)
 
 -- whether closing keeps the comments that wait: in the new mode alone
 abbrev pub keeps_waiting : ℕ → Bool

@@ -1,8 +1,7 @@
 -- "80 is the reference", and "equality with the Rust in the old" mode: with these all is as it was before a caller could choose. 12 and 15 refuse
 -- no file, what is built is what `fmt_parsed` builds, and `Renderer` has the Rust's `max`.
 -- The definitions here have no choice; proofs/Reference.antt proves that those with a choice are these at 80 and in the old mode.
-use Rattle.std.specs.Prelude.{◌⊎◌, ◌≡◌, true, List, [], ◌∷◌, ℕ, ◌-◌, max, ltb, length, take, replicate}
-use Rattle.std.proofs.Math.Option.{Option, none}
+use Rattle.std.specs.Prelude.{◌⊎◌, ◌≡◌, true, List, [], ◌∷◌, ℕ, ◌-◌, max, ltb, length, take, replicate, Option, None}
 use Rattle.image.specs.Read.{read_all, read_refusal}
 use Rattle.rows.specs.View.{view_of, nodes_at}
 use Rattle.rows.specs.Rows.{sizes, rows}
@@ -70,8 +69,8 @@ module _ (s b : List ℕ) where
   output_then out = unless (refusal_then (length out)) out (write_front drawn_then.text out)
 
   pub record FileAsBefore : Type 0 where
-    pub not_12 : mode_line reference_choice ≡ none
-    pub not_15 : width_line (render_choice reference_choice) render_fresh ≡ none
+    pub not_12 : mode_line reference_choice ≡ None
+    pub not_15 : width_line (render_choice reference_choice) render_fresh ≡ None
     pub same_built : built s b reference_choice ≡ built_then
     pub refusal : (room : ℕ) → file_refusal s b reference_choice room ≡ refusal_then room
     pub answer : (room : ℕ) → file_answer s b reference_choice room ≡ answer_then room

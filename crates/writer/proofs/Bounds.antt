@@ -2,9 +2,9 @@
 -- Assumes nothing.
 use mathlib.Core.Path.{◌≡◌, refl, sym, ap, ◌∙◌}
 use mathlib.Core.Bool.{Bool, true, false, cond}
-use mathlib.Core.Option.{none, some}
+use Rattle.std.specs.Prelude.{None, Some}
 use mathlib.Core.List.{List}
-use Prim.Native.Nat.{ℕ, zero, suc, ◌+◌, ◌/◌, ◌%◌, ◌≤◌, ◌<◌}
+use Prim.Native.Nat.{ℕ, zero, suc, ◌+◌, ◌≤◌, ◌<◌}
 use native.Mathlib.Omega.{arith}
 use lib.ListN.{length}
 use lib.Dec.{eqb}
@@ -19,7 +19,7 @@ use Rattle.steps.proofs.Taken.{payload_taken}
 use Rattle.steps.proofs.Sizes.{row_short, short_gone, short_here, payload_size, record_from_size}
 use Rattle.writer.specs.Steps.{stands, child_from}
 use Rattle.writer.specs.Put.{AtRecord, AtChildren}
-use Rattle.writer.proofs.Seen.{stood, optional, child_close, child_absent, child_open, child_not}
+use Rattle.writer.proofs.Seen.{stood, child_close, child_absent, child_open, child_not}
 
 -- a record has its length at least
 written_some : (x : Plain) → 4 ≤ length (written x)
@@ -33,8 +33,8 @@ has_place zero row s z = absurd (z (eqb-true row 0 s))
 has_place (suc n) row s z = omega arith
 
 -- a place that may be empty is one
-pub optional_place : {l : List ℕ} {row at pos : ℕ} → (c : AtChildren l row at pos) → row / 16384 % 2 ≡ 1 → 1 ≤ c.places
-optional_place {l} {row} c e = let m = short_gone c.places row (optional row e) c.few in omega (arith, m.1)
+pub optional_place : {l : List ℕ} {row at pos : ℕ} → (c : AtChildren l row at pos) → is_optional (place row) ≡ true → 1 ≤ c.places
+optional_place {l} {row} c e = let m = short_gone c.places row e c.few in omega (arith, m.1)
 
 pub record_due : {l : List ℕ} {row at pos : ℕ} → AtChildren l row at pos → ¬ (row ≡ 0) → AtRecord l at pos
 record_due {l} {row} {at} {pos} c z =
@@ -43,14 +43,14 @@ record_due {l} {row} {at} {pos} c z =
 
 -- behind a child
 pub behind : (l : List ℕ) (left row at pos : ℕ) → AtChildren l row at pos → (y : Plain) (e : ℕ)
-    → child_from (record_from l left) l row at ≡ got (some y) e → (at < e) × AtChildren l (after row) e (pos + length (written y))
+    → child_from (record_from l left) l row at ≡ got (Some y) e → (at < e) × AtChildren l (after row) e (pos + length (written y))
 unfolding written
 behind l left row at pos due y e h = closing (stands l at 6 1) refl
   where
     one : ℕ → ℕ → Read Plain
     one = record_from l left
 
-    gone : (t : Bool) → is_optional (place row) ≡ t → at + 1 ≤ length l → cond t (got (some without) (at + 1)) (bad 16 at) ≡ got (some y) e
+    gone : (t : Bool) → is_optional (place row) ≡ t → at + 1 ≤ length l → cond t (got (Some without) (at + 1)) (bad 16 at) ≡ got (Some y) e
         → (at < e) × AtChildren l (after row) e (pos + length (written y))
     gone true o w q =
         let m = short_gone due.places row o due.few in
@@ -60,7 +60,7 @@ behind l left row at pos due y e h = closing (stands l at 6 1) refl
         (omega arith, record { inside = omega arith; places = m.0; few = m.2; below = omega (arith, m.1, due.below) })
     gone false o w q = never q
 
-    found : (r : Read Plain) → one (bare (place row)) at ≡ r → bind r (λ x b. got (some x) b) ≡ got (some y) e
+    found : (r : Read Plain) → one (bare (place row)) at ≡ r → bind r (λ x b. got (Some x) b) ≡ got (Some y) e
         → (at < e) × AtChildren l (after row) e (pos + length (written y))
     found (bad n p) o q = never q
     found (got x b) o q =
@@ -83,7 +83,7 @@ behind l left row at pos due y e h = closing (stands l at 6 1) refl
     opening false s n6 n5 = never (sym (child_not one l row at n6 n5 s) ∙ h)
     opening true s n6 n5 = there (eqb row 0) (sym (child_open one l row at s) ∙ h)
       where
-        there : (t : Bool) → cond t (bad 16 at) (bind (one (bare (place row)) at) (λ x b. got (some x) b)) ≡ got (some y) e
+        there : (t : Bool) → cond t (bad 16 at) (bind (one (bare (place row)) at) (λ x b. got (Some x) b)) ≡ got (Some y) e
             → (at < e) × AtChildren l (after row) e (pos + length (written y))
         there true q = never q
         there false q = found (one (bare (place row)) at) refl q
@@ -96,7 +96,7 @@ behind l left row at pos due y e h = closing (stands l at 6 1) refl
     closing : (t : Bool) → stands l at 6 1 ≡ t → (at < e) × AtChildren l (after row) e (pos + length (written y))
     closing true s = no (complete row) (sym (child_close one l row at s) ∙ h)
       where
-        no : (t : Bool) → cond t (got none (at + 1)) (bad 16 at) ≡ got (some y) e → (at < e) × AtChildren l (after row) e (pos + length (written y))
+        no : (t : Bool) → cond t (got None (at + 1)) (bad 16 at) ≡ got (Some y) e → (at < e) × AtChildren l (after row) e (pos + length (written y))
         no true q = let z : ◌≡◌ {A = ℕ} 0 1 = cc in absurd (omega arith)
         no false q = never q
     closing false s = absent (stands l at 5 1) refl s

@@ -11,7 +11,11 @@ use lib.ListN.{length, take, drop, set, length-append, length-drop, take-append-
 use lib.Seq.{sets, take_all, length-take-le}
 use borrow.Author.Tests.{lt-ltb, le-ltb, ltb-true, ltb-false}
 use Rattle.laws.proofs.Stores.{sets_append}
+use Rattle.std.specs.Prelude.{Result, Ok, Err}
+use Rattle.refusals.specs.Refusals.{Refusal}
 use Rattle.refusals.specs.Answers.{refused, accepted}
+use Rattle.refusals.specs.Reasons.{number_of}
+use Rattle.refusals.specs.declared.Refused.{Refused}
 use Rattle.image.specs.Kinds.{TREE}
 use Rattle.image.specs.Limits.{MAX_COMMENTS, MAX_RECORDS_DEEP}
 use Rattle.image.specs.Grammar.{is_optional, place, after, row_of, row_under_of}
@@ -25,11 +29,10 @@ use Rattle.steps.proofs.Fits.{Fits, fits, FitsRow, ends, gone, here}
 use Rattle.steps.proofs.Taken.{list_append, record_taken}
 use Rattle.steps.proofs.Sizes.{record_size, payload_size, pairs_size}
 use Rattle.writer.specs.Put.{put_of, put_by}
-use Rattle.writer.specs.Wrote.{measured}
+use Rattle.writer.specs.Wrote.{measures, measured}
 use Rattle.writer.specs.declared.output.Reached.{Reached}
-use Rattle.writer.specs.declared.output.Reached.TheVariants.{Next, Fault}
-use Rattle.writer.specs.declared.whole.Measured.TheVariants.{Image, Fault as Wrong}
-use Rattle.writer.proofs.Runs.{Held, was_held, was_fault}
+use Rattle.writer.specs.declared.whole.Measured.{Measured}
+use Rattle.writer.proofs.Runs.{was_held, was_fault}
 use Rattle.writer.proofs.Commented.{comments_got}
 
 -- ---- the tree leaves room for the image's head: only one of its places may be empty
@@ -102,14 +105,19 @@ module _ (l : List ℕ) where
 
   pub is_measured : (cs : List Span) (at : ℕ) (x : Plain) (end pairs bytes : ℕ) → comments_from l MAX_COMMENTS 0 ≡ got cs at
       → record_from l MAX_RECORDS_DEEP TREE at ≡ got x end → length l ≤ end → pairs ≡ length (pair_bytes cs) → bytes ≡ length (written x)
-      → Image at (7 + pairs + bytes) ≡ measured (contents_from l)
+      → measures at (7 + pairs + bytes) ≡ measured (contents_from l)
   is_measured cs at x end pairs bytes e f h p q =
       let k = comments_got l MAX_COMMENTS 0 cs at (omega arith) e in
       let a : at ≡ 9 * length cs = omega (arith, k.ends) in
       let n : 7 + pairs + bytes ≡ length (image_of (record { comments = cs; tree = x })) = sym (image_length cs x ∙ omega arith) in
-      ap₂ Image a n ∙ sym (ap measured (contents_whole cs at x end e f h))
+      ap₂ measures a n ∙ sym (ap measured (contents_whole cs at x end e f h))
 
   -- ---- what was measured
+  same_measure : (a b x y : ℕ) → measures a b ≡ measures x y → (a ≡ x) × (b ≡ y)
+  same_measure a b x y e =
+      let m : ◌≡◌ {A = Measured} (record { tree = a; bytes = b }) (record { tree = x; bytes = y }) = cc in
+      (ap (λ (z : Measured). z.tree) m, ap (λ (z : Measured). z.bytes) m)
+
   pub record Parts (at bytes : ℕ) : Type 0 where
     pub comments : List Span
     pub tree : Plain
@@ -122,31 +130,32 @@ module _ (l : List ℕ) where
     pub image : image_due l ≡ image_of (record { comments = comments; tree = tree })
     pub size : bytes ≡ 7 + 8 * length comments + length (written tree)
 
-  parts_by : (at bytes : ℕ) (r : Read (List Span)) → comments_from l MAX_COMMENTS 0 ≡ r → Image at bytes ≡ measured (contents_from l) → Parts at bytes
+  parts_by : (at bytes : ℕ) (r : Read (List Span)) → comments_from l MAX_COMMENTS 0 ≡ r → measures at bytes ≡ measured (contents_from l) → Parts at bytes
   parts_by at bytes (bad n p) e h =
-      let w : Image at bytes ≡ Wrong n p = h ∙ ap measured (contents_pairs n p e) in
+      let w : measures at bytes ≡ refused (record { number = n; place = p }) = h ∙ ap measured (contents_pairs n p e) in
       let z : ◌≡◌ {A = ℕ} 0 1 = cc in
       absurd (omega arith)
   parts_by at bytes (got cs a) e h = more (record_from l MAX_RECORDS_DEEP TREE a) refl
     where
       more : (r : Read Plain) → record_from l MAX_RECORDS_DEEP TREE a ≡ r → Parts at bytes
       more (bad n p) f =
-          let w : Image at bytes ≡ Wrong n p = h ∙ ap measured (contents_tree cs a n p e f) in
+          let w : measures at bytes ≡ refused (record { number = n; place = p }) = h ∙ ap measured (contents_tree cs a n p e f) in
           let z : ◌≡◌ {A = ℕ} 0 1 = cc in
           absurd (omega arith)
       more (got x end) f = done (ltb end (length l)) refl
         where
           done : (t : Bool) → ltb end (length l) ≡ t → Parts at bytes
           done true b =
-              let w : Image at bytes ≡ Wrong 16 end = h ∙ ap measured (contents_spare cs a x end e f (omega (arith, ltb-true end (length l) b))) in
+              let w : measures at bytes ≡ refused (record { number = 16; place = end }) = h ∙ ap measured (contents_spare cs a x end e f (omega (arith, ltb-true end (length l) b))) in
               let z : ◌≡◌ {A = ℕ} 0 1 = cc in
               absurd (omega arith)
           done false b =
               let c = contents_whole cs a x end e f (omega (arith, ltb-false end (length l) b)) in
-              let w : Image at bytes ≡ Image (9 * length cs) (length (image_of (record { comments = cs; tree = x }))) = h ∙ ap measured c in
+              let w : measures at bytes ≡ measures (9 * length cs) (length (image_of (record { comments = cs; tree = x }))) = h ∙ ap measured c in
               let k = comments_got l MAX_COMMENTS 0 cs a (omega arith) e in
-              let p : at ≡ 9 * length cs = cc in
-              let q : bytes ≡ length (image_of (record { comments = cs; tree = x })) = cc in
+              let m = same_measure at bytes _ _ w in
+              let p : at ≡ 9 * length cs = m.0 in
+              let q : bytes ≡ length (image_of (record { comments = cs; tree = x })) = m.1 in
               let same : a ≡ at = omega (arith, k.ends) in
               record {
                 comments = cs;
@@ -161,29 +170,20 @@ module _ (l : List ℕ) where
                 size = q ∙ image_length cs x ∙ ap (λ (n : ℕ). 7 + n + length (written x)) (pairs_size cs);
               }
 
-  pub parts : (at bytes : ℕ) → Image at bytes ≡ measured (contents_from l) → Parts at bytes
+  pub parts : (at bytes : ℕ) → measures at bytes ≡ measured (contents_from l) → Parts at bytes
   parts at bytes h = parts_by at bytes (comments_from l MAX_COMMENTS 0) refl h
-
--- ---- what a run says of what it read, by its answer
-pub read_next : {A : Type 0} (f : A → List ℕ) (pos : ℕ) (out : List ℕ) (rd : Read A) (r : Reached) (o : List ℕ) (e q : ℕ)
-    → put_of r o ≡ put_by f pos out rd → r ≡ Next e q → Held f pos out rd e q o
-read_next f pos out rd r o e q h k = was_held f pos out rd e q o (ap (λ (x : Reached). put_of x o) (sym k) ∙ h)
-
-pub read_fault : {A : Type 0} (f : A → List ℕ) (pos : ℕ) (out : List ℕ) (rd : Read A) (r : Reached) (o : List ℕ) (n p : ℕ)
-    → put_of r o ≡ put_by f pos out rd → r ≡ Fault n p → rd ≡ bad n p
-read_fault f pos out rd r o n p h k = was_fault f pos out rd n p (ap (λ (x : Reached). put_of x o) (sym k) ∙ h)
 
 -- ---- what is put
 -- a run over what is accepted puts it
-pub put_got : {A : Type 0} (f : A → List ℕ) (pos : ℕ) (out : List ℕ) (rd : Read A) (r : Reached) (o : List ℕ) (a : A) (e : ℕ)
+pub put_got : {A : Type 0} (f : A → List ℕ) (pos : ℕ) (out : List ℕ) (rd : Read A) (r : Result Reached Refused) (o : List ℕ) (a : A) (e : ℕ)
     → put_of r o ≡ put_by f pos out rd → rd ≡ got a e → pos + length (f a) < 4294967296 → o ≡ sets out pos (f a)
-put_got f pos out rd (Next x y) o a e h g low =
-    let k = was_held f pos out rd x y o h in
-    let w : got k.what x ≡ got a e = sym k.reads ∙ g in
+put_got f pos out rd (Ok x) o a e h g low =
+    let k = was_held f pos out rd x.at x.pos o h in
+    let w : got k.what x.at ≡ got a e = sym k.reads ∙ g in
     let same : k.what ≡ a = cc in
     k.output (rw (k.place, same) low) ∙ ap (λ (u : _). sets out pos (f u)) same
-put_got f pos out rd (Fault n p) o a e h g low =
-    let w : got a e ≡ bad n p = sym g ∙ was_fault f pos out rd n p h in
+put_got f pos out rd (Err x) o a e h g low =
+    let w : got a e ≡ bad (number_of x.reason) x.place = sym g ∙ was_fault f pos out rd (number_of x.reason) x.place h in
     let z : ◌≡◌ {A = ℕ} 0 1 = cc in
     absurd (omega arith)
 
@@ -232,21 +232,20 @@ whole_put l at bytes k out o₁ o₂ o₃ o₄ o₅ h e₁ e₂ e₃ e₄ e₅ =
 
 -- ---- the answer
 module _ (l out : List ℕ) where
-  pub answers_wrong : (n p : ℕ) → Wrong n p ≡ measured (contents_from l)
-      → (refused (record { number = n; place = p }) ≡ writer_answer l (length out)) × (out ≡ writer_output l out)
-  answers_wrong n p h = go (contents_from l) refl
+  pub answers_wrong : (x : Refusal) → refused x ≡ measured (contents_from l)
+      → (refused x ≡ writer_answer l (length out)) × (out ≡ writer_output l out)
+  answers_wrong x h = go (contents_from l) refl
     where
-      go : (r : Read Contents) → contents_from l ≡ r → (refused (record { number = n; place = p }) ≡ writer_answer l (length out)) × (out ≡ writer_output l out)
-      go (got c end) e = let w : Wrong n p ≡ measured (got c end) = h ∙ ap measured e in let z : ◌≡◌ {A = ℕ} 0 1 = cc in absurd (omega arith)
+      go : (r : Read Contents) → contents_from l ≡ r → (refused x ≡ writer_answer l (length out)) × (out ≡ writer_output l out)
+      go (got c end) e = let w : refused x ≡ measured (got c end) = h ∙ ap measured e in cc
       go (bad m q) e =
-          let w : Wrong n p ≡ measured (bad m q) = h ∙ ap measured e in
-          let a : n ≡ m = cc in
-          let b : p ≡ q = cc in
-          (rw e (ap₂ (λ (x y : ℕ). refused (record { number = x; place = y })) a b), rw e)
+          let w : refused x ≡ measured (bad m q) = h ∙ ap measured e in
+          let a : x ≡ record { number = m; place = q } = cc in
+          (rw e (ap refused a), rw e)
 
-  module _ (at bytes : ℕ) (h : Image at bytes ≡ measured (contents_from l)) where
+  module _ (at bytes : ℕ) (h : measures at bytes ≡ measured (contents_from l)) where
     due_length : (c : Contents) (end : ℕ) → contents_from l ≡ got c end → length (image_of c) ≡ bytes
-    due_length c end e = let w : Image at bytes ≡ measured (got c end) = h ∙ ap measured e in cc
+    due_length c end e = sym (same_measure l at bytes (9 * length c.comments) (length (image_of c)) (h ∙ ap measured e)).1
 
     pub answers_long : (ltb 1048581 bytes || ltb (length out) bytes) ≡ true
         → (refused (record { number = 17; place = bytes }) ≡ writer_answer l (length out)) × (out ≡ writer_output l out)
@@ -254,7 +253,7 @@ module _ (l out : List ℕ) where
       where
         go : (r : Read Contents) → contents_from l ≡ r
             → (refused (record { number = 17; place = bytes }) ≡ writer_answer l (length out)) × (out ≡ writer_output l out)
-        go (bad m q) e = let w : Image at bytes ≡ measured (bad m q) = h ∙ ap measured e in let z : ◌≡◌ {A = ℕ} 0 1 = cc in absurd (omega arith)
+        go (bad m q) e = let w : measures at bytes ≡ measured (bad m q) = h ∙ ap measured e in let z : ◌≡◌ {A = ℕ} 0 1 = cc in absurd (omega arith)
         go (got c end) e =
             let n = due_length c end e in
             (rw (e, n, t), rw (e, n, t))
@@ -264,7 +263,7 @@ module _ (l out : List ℕ) where
     answers_whole o t f = go (contents_from l) refl
       where
         go : (r : Read Contents) → contents_from l ≡ r → (accepted bytes ≡ writer_answer l (length out)) × (o ≡ writer_output l out)
-        go (bad m q) e = let w : Image at bytes ≡ measured (bad m q) = h ∙ ap measured e in let z : ◌≡◌ {A = ℕ} 0 1 = cc in absurd (omega arith)
+        go (bad m q) e = let w : measures at bytes ≡ measured (bad m q) = h ∙ ap measured e in let z : ◌≡◌ {A = ℕ} 0 1 = cc in absurd (omega arith)
         go (got c end) e =
             let n = due_length c end e in
             (rw (e, n, t), f ∙ rw (e, n, t))

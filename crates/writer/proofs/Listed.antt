@@ -132,6 +132,12 @@ tree_head b at pos there z = go there.tree there.stands
     go absent s = absurd (z s.empty)
     go (node h ts) s = (s.0.whole, (ts, s.1))
 
+pub tree_room : (b : List ℕ) (at pos : ℕ) → TreeThere b at pos → ¬ (be32 b at ≡ 0)
+    → (9 ≤ be32 b at) × ((at + 4 + be32 b at ≤ length b) × ((length b ≤ 1048581) × (pos ≤ 2 * at)))
+tree_room b at pos t z =
+    let w = (tree_head b at pos t z).0 in
+    (w.long, (w.inside, (t.short, t.below)))
+
 pub first_is : (b : List ℕ) (at k n f : ℕ) → k ≡ kind_at b at → n ≡ be32 b at → f ≡ first_child k (at + 13) (at + 4 + n) → f ≡ (head_at b at).first
 first_is b at k n f e m g = g ∙ ap₂ (λ (x y : ℕ). first_child x (at + 13) (at + 4 + y)) e m
 
@@ -383,15 +389,15 @@ tree_there b n at pos out o a p =
     }
 
 module _ (s b out : List ℕ) where
-  pub lists_refused : (n p : ℕ) → refused (record { number = n; place = p }) ≡ outcome (read_all s b)
-      → (refused (record { number = n; place = p }) ≡ steps_of_answer s b (length out)) × (out ≡ steps_of_output s b out)
-  lists_refused n p h = go (read_all s b) refl h
+  pub lists_refused : (x : Refusal) → refused x ≡ outcome (read_all s b)
+      → (refused x ≡ steps_of_answer s b (length out)) × (out ≡ steps_of_output s b out)
+  lists_refused x h = go (read_all s b) refl h
     where
-      go : (r : Read Image) → read_all s b ≡ r → refused (record { number = n; place = p }) ≡ outcome r
-          → (refused (record { number = n; place = p }) ≡ steps_of_answer s b (length out)) × (out ≡ steps_of_output s b out)
-      go (got i end) e h = let z : ◌≡◌ {A = ℕ} 0 1 = cc in absurd (omega arith)
+      go : (r : Read Image) → read_all s b ≡ r → refused x ≡ outcome r
+          → (refused x ≡ steps_of_answer s b (length out)) × (out ≡ steps_of_output s b out)
+      go (got i end) e h = cc
       go (bad m q) e h =
-          let same : ◌≡◌ {A = Refusal} (record { number = n; place = p }) (record { number = m; place = q }) = cc in
+          let same : x ≡ record { number = m; place = q } = cc in
           (rw e (ap refused same), rw e)
 
   module _ (d : Document) (h : accepted d ≡ outcome (read_all s b)) (bytes : ℕ) (u v : List ℕ) (p : PutsImage b u bytes v) where

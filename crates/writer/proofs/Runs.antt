@@ -2,9 +2,9 @@
 -- Assumes nothing.
 use mathlib.Core.Path.{◌≡◌, refl, sym, ap, ap₂, ◌∙◌}
 use mathlib.Core.Bool.{Bool, true, false, cond}
-use mathlib.Core.Option.{Option, none, some}
+use Rattle.std.specs.Prelude.{Option, None, Some, Result, Ok, Err, IsErrAnd}
 use mathlib.Core.List.{List, [], ◌∷◌, ◌++◌}
-use Prim.Native.Nat.{ℕ, zero, suc, ◌+◌, ◌-◌, ◌/◌, ◌%◌, ◌≤◌, ◌<◌}
+use Prim.Native.Nat.{ℕ, zero, suc, ◌+◌, ◌-◌, ◌%◌, ◌≤◌, ◌<◌}
 use native.Mathlib.Omega.{arith}
 use native.Mathlib.Nat.{mod-eq_of_lt}
 use native.Mathlib.Numerals.{sub-one}
@@ -12,10 +12,12 @@ use lib.Dec.{ltb}
 use lib.ListN.{length, get_or, set, length-append}
 use lib.Seq.{sets}
 use borrow.Author.Tests.{ltb-true, ltb-false, le-leb, lt-leb, eq-eqb, ne_eqb}
+use Rattle.refusals.specs.Reasons.{number_of}
+use Rattle.refusals.specs.declared.Refused.{Refused}
 use Rattle.text.specs.Utf8.{well_formed}
 use Rattle.image.specs.Bytes.{be16, be32, part}
 use Rattle.image.specs.Kinds.{TEXT}
-use Rattle.image.specs.Grammar.{bare, place, after, complete, row_under_of, has_byte, top_byte}
+use Rattle.image.specs.Grammar.{is_optional, bare, place, after, complete, row_under_of, has_byte, top_byte}
 use Rattle.image.specs.Read.{Read, got, bad, bind}
 use Rattle.image.specs.Write.{Plain, Plains, without, plainly, done, ◌next◌, bytes4, written, writtens}
 use Rattle.image.proofs.Exact.{Small, part_length}
@@ -23,8 +25,10 @@ use Rattle.steps.specs.Steps.{bytes2}
 use Rattle.steps.specs.Writer.{step_from, text_by, byte_by, Opened, opened_from, payload_from, children_from, record_from}
 use Rattle.steps.proofs.Took.{took_byte, took_two, took_four, took_join, took_is}
 use Rattle.writer.specs.Steps.{stands, child_from}
-use Rattle.writer.specs.Put.{held, long, closed, fault, up_to, put_by, child_by}
-use Rattle.writer.proofs.Seen.{stood, text_step_lem, payload_step_lem, opened_at, child_close, child_absent, child_there, optional, children_turn}
+use Rattle.writer.specs.Put.{held, long, closed, fault, up_to, put_by, child_by, put_of, child_of}
+use Rattle.writer.specs.declared.output.Reached.{Reached}
+use Rattle.writer.specs.declared.records.Child.{Child}
+use Rattle.writer.proofs.Seen.{stood, text_step_lem, payload_step_lem, opened_at, child_close, child_absent, child_there, children_turn}
 use Rattle.writer.proofs.Stores.{sets_before, sets_behind}
 
 -- ---- where a run ends
@@ -88,27 +92,46 @@ pub was_fault : {A : Type 0} (f : A → List ℕ) (pos : ℕ) (out : List ℕ) (
 was_fault f pos out (got a end) n p h = absurd (no_fault end (pos + length (f a)) n p (sets out pos (f a)) (sym h))
 was_fault f pos out (bad m q) n p h = cc
 
+-- ---- what a run says of what it read, by its answer
+pub read_next : {A : Type 0} (f : A → List ℕ) (pos : ℕ) (out : List ℕ) (rd : Read A) (r : Result Reached Refused) (o : List ℕ) (x : Reached)
+    → put_of r o ≡ put_by f pos out rd → r ≡ Ok x → Held f pos out rd x.at x.pos o
+read_next f pos out rd r o x h k = was_held f pos out rd x.at x.pos o (ap (λ (y : Result Reached Refused). put_of y o) (sym k) ∙ h)
+
+pub read_fault : {A : Type 0} (f : A → List ℕ) (pos : ℕ) (out : List ℕ) (rd : Read A) (r : Result Reached Refused) (o : List ℕ) (x : Refused)
+    → put_of r o ≡ put_by f pos out rd → r ≡ Err x → rd ≡ bad (number_of x.reason) x.place
+read_fault f pos out rd r o x h k =
+    was_fault f pos out rd (number_of x.reason) x.place (ap (λ (y : Result Reached Refused). put_of y o) (sym k) ∙ h)
+
+-- and what one says that a `?` ends
+pub passed_put : (r : Result Reached Refused) (e : Refused) (o : List ℕ) → IsErrAnd r (λ x. x ≡ e) → put_of r o ≡ fault (number_of e.reason) e.place
+passed_put (Ok x) e o h = absurd h
+passed_put (Err x) e o h = rw h
+
+pub passed_child : (r : Result Child Refused) (e : Refused) (o : List ℕ) → IsErrAnd r (λ x. x ≡ e) → child_of r o ≡ fault (number_of e.reason) e.place
+passed_child (Ok x) e o h = absurd h
+passed_child (Err x) e o h = rw h
+
 -- ---- a child
 pub was_child : (pos : ℕ) (out : List ℕ) (r : Read (Option Plain)) (e q : ℕ) (o : List ℕ) → up_to e q o ≡ child_by pos out r
-    → (x : Plain) × (r ≡ got (some x) e) × Held written pos out (got x e) e q o
-was_child pos out (got none end) e q o h = absurd (no_close e q end o out h)
-was_child pos out (got (some x) end) e q o h =
+    → (x : Plain) × (r ≡ got (Some x) e) × Held written pos out (got x e) e q o
+was_child pos out (got None end) e q o h = absurd (no_close e q end o out h)
+was_child pos out (got (Some x) end) e q o h =
     let s = up_to_lem e q end (pos + length (written x)) o (sets out pos (written x)) h in
-    (x, ap (got (some x)) (sym s.at), record { what = x; reads = refl; place = s.place; output = s.output })
+    (x, ap (got (Some x)) (sym s.at), record { what = x; reads = refl; place = s.place; output = s.output })
 was_child pos out (bad n p) e q o h = absurd (no_fault e q n p o h)
 
-pub was_closed : (pos : ℕ) (out : List ℕ) (r : Read (Option Plain)) (e : ℕ) (o : List ℕ) → closed e o ≡ child_by pos out r → (r ≡ got none e) × (o ≡ out)
-was_closed pos out (got none end) e o h = (cc, cc)
-was_closed pos out (got (some x) end) e o h = absurd (no_close end (pos + length (written x)) e (sets out pos (written x)) o (sym h))
+pub was_closed : (pos : ℕ) (out : List ℕ) (r : Read (Option Plain)) (e : ℕ) (o : List ℕ) → closed e o ≡ child_by pos out r → (r ≡ got None e) × (o ≡ out)
+was_closed pos out (got None end) e o h = (cc, cc)
+was_closed pos out (got (Some x) end) e o h = absurd (no_close end (pos + length (written x)) e (sets out pos (written x)) o (sym h))
 was_closed pos out (bad n p) e o h = let z : ◌≡◌ {A = ℕ} 0 1 = cc in absurd (omega arith)
 
 pub was_wrong : (pos : ℕ) (out : List ℕ) (r : Read (Option Plain)) (n p : ℕ) → fault n p ≡ child_by pos out r → r ≡ bad n p
-was_wrong pos out (got none end) n p h = let z : ◌≡◌ {A = ℕ} 0 1 = cc in absurd (omega arith)
-was_wrong pos out (got (some x) end) n p h = absurd (no_fault end (pos + length (written x)) n p (sets out pos (written x)) (sym h))
+was_wrong pos out (got None end) n p h = let z : ◌≡◌ {A = ℕ} 0 1 = cc in absurd (omega arith)
+was_wrong pos out (got (Some x) end) n p h = absurd (no_fault end (pos + length (written x)) n p (sets out pos (written x)) (sym h))
 was_wrong pos out (bad m q) n p h = cc
 
 -- a record is a child
-pub child_record : (pos : ℕ) (out : List ℕ) (r : Read Plain) → child_by pos out (bind r (λ y behind. got (some y) behind)) ≡ put_by written pos out r
+pub child_record : (pos : ℕ) (out : List ℕ) (r : Read Plain) → child_by pos out (bind r (λ y behind. got (Some y) behind)) ≡ put_by written pos out r
 child_record pos out (got x e) = refl
 child_record pos out (bad n p) = refl
 
@@ -307,19 +330,19 @@ record_not l zero p at e = refl
 record_not l (suc d) p at e = rw e
 
 -- an absent child
-pub absent_held : (one : ℕ → ℕ → Read Plain) (l : List ℕ) (row at pos : ℕ) (out o : List ℕ) → stands l at 5 1 ≡ true → row / 16384 % 2 ≡ 1
+pub absent_held : (one : ℕ → ℕ → Read Plain) (l : List ℕ) (row at pos : ℕ) (out o : List ℕ) → stands l at 5 1 ≡ true → is_optional (place row) ≡ true
     → o ≡ sets out pos (bytes4 0) → up_to (at + 1) (pos + 4) o ≡ child_by pos out (child_from one l row at)
 unfolding written
 absent_held one l row at pos out o s e f =
-    let c : child_from one l row at ≡ got (some without) (at + 1) =
-    child_absent one l row at s ∙ ap (λ (t : Bool). cond t (got (some without) (at + 1)) (bad 16 at)) (optional row e) in
+    let c : child_from one l row at ≡ got (Some without) (at + 1) =
+    child_absent one l row at s ∙ ap (λ (t : Bool). cond t (got (Some without) (at + 1)) (bad 16 at)) e in
     rw c (ap (up_to (at + 1) (pos + 4)) f)
 
 pub close_held : (one : ℕ → ℕ → Read Plain) (l : List ℕ) (row at pos : ℕ) (out : List ℕ) → stands l at 6 1 ≡ true → complete row ≡ true
     → closed (at + 1) out ≡ child_by pos out (child_from one l row at)
 close_held one l row at pos out s e =
-    let c : child_from one l row at ≡ got none (at + 1) =
-    child_close one l row at s ∙ ap (λ (t : Bool). cond t (got none (at + 1)) (bad 16 at)) e in
+    let c : child_from one l row at ≡ got None (at + 1) =
+    child_close one l row at s ∙ ap (λ (t : Bool). cond t (got None (at + 1)) (bad 16 at)) e in
     rw c
 
 pub open_held : (one : ℕ → ℕ → Read Plain) (l : List ℕ) (row at pos : ℕ) (out : List ℕ) → stands l at 2 10 ≡ true → ¬ (row ≡ 0)

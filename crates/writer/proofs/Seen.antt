@@ -2,9 +2,9 @@
 -- Assumes nothing.
 use mathlib.Core.Path.{◌≡◌, refl, sym, ap, ◌∙◌}
 use mathlib.Core.Bool.{Bool, true, false, cond, ◌&&◌}
-use mathlib.Core.Option.{Option, none, some}
+use Rattle.std.specs.Prelude.{Option, None, Some}
 use mathlib.Core.List.{List}
-use Prim.Native.Nat.{ℕ, suc, ◌+◌, ◌/◌, ◌%◌, ◌≤◌, ◌<◌}
+use Prim.Native.Nat.{ℕ, suc, ◌+◌, ◌≤◌, ◌<◌}
 use native.Mathlib.Omega.{arith}
 use lib.Dec.{leb, eqb}
 use lib.ListN.{length, get_or}
@@ -25,6 +25,10 @@ stood l at k n e =
     let w = both (leb (at + n) (length l)) (eqb (get_or l at 0) k) e in
     (leb-true (at + n) (length l) w.0, eqb-true (get_or l at 0) k w.1)
 
+-- so many bytes are left
+pub room_for : (l : List ℕ) (at k n : ℕ) → stands l at k n ≡ true → at + n ≤ length l
+room_for l at k n e = (stood l at k n e).0
+
 pub is_standing : (l : List ℕ) (at k n : ℕ) → at + n ≤ length l → get_or l at 0 ≡ k → stands l at k n ≡ true
 unfolding stands
 is_standing l at k n h e = rw (le-leb (at + n) (length l) h) (eq-eqb (get_or l at 0) k e)
@@ -36,10 +40,6 @@ not_short l at k n h = rw (lt-leb (at + n) (length l) h)
 pub not_there : (l : List ℕ) (at k n : ℕ) → (get_or l at 0 ≡ k → ⊥) → stands l at k n ≡ false
 unfolding stands
 not_there l at k n h = rw (ne_eqb (get_or l at 0) k h) (and_false (leb (at + n) (length l)))
-
-pub stands_there : (l : List ℕ) (at k n x : ℕ) → at + n ≤ length l → x ≡ get_or l at 0 → eqb x k ≡ stands l at k n
-unfolding stands
-stands_there l at k n x h e = rw (le-leb (at + n) (length l) h) (ap (λ (j : ℕ). eqb j k) e)
 
 -- how many bytes the step of kind k has
 abbrev pub bytes_of : List ℕ → ℕ → ℕ → ℕ
@@ -164,6 +164,9 @@ module _ (l : List ℕ) (p at : ℕ) where
       go true w = (w, rw (opened_if w, sym (opened_taken w) ∙ e))
       go false w = absurd (clash _ e (ap taken (opened_not w)))
 
+  pub opened_room : taken (opened_from l p at) ≡ true → at + 10 ≤ length l
+  opened_room e = (stood l at 2 10 (was_opened e).0).0
+
   pub not_opened : taken (opened_from l p at) ≡ false → opened_from l p at ≡ bad 16 at
   not_opened e = go (stands l at 2 10) refl
     where
@@ -206,16 +209,16 @@ module _ (l : List ℕ) (at : ℕ) where
 
 -- ---- a child
 module _ (one : ℕ → ℕ → Read Plain) (l : List ℕ) (row at : ℕ) where
-  pub child_close : stands l at 6 1 ≡ true → child_from one l row at ≡ cond (complete row) (got none (at + 1)) (bad 16 at)
+  pub child_close : stands l at 6 1 ≡ true → child_from one l row at ≡ cond (complete row) (got None (at + 1)) (bad 16 at)
   unfolding child_from
   child_close e = rw (close_step_lem l at e)
 
-  pub child_absent : stands l at 5 1 ≡ true → child_from one l row at ≡ cond (is_optional (place row)) (got (some without) (at + 1)) (bad 16 at)
+  pub child_absent : stands l at 5 1 ≡ true → child_from one l row at ≡ cond (is_optional (place row)) (got (Some without) (at + 1)) (bad 16 at)
   unfolding child_from
   child_absent e = rw (absent_step_lem l at e)
 
   pub child_open : stands l at 2 10 ≡ true
-      → child_from one l row at ≡ cond (eqb row 0) (bad 16 at) (bind (one (bare (place row)) at) (λ y behind. got (some y) behind))
+      → child_from one l row at ≡ cond (eqb row 0) (bad 16 at) (bind (one (bare (place row)) at) (λ y behind. got (Some y) behind))
   unfolding child_from
   child_open e = rw (open_step_lem l at e)
 
@@ -226,9 +229,9 @@ module _ (one : ℕ → ℕ → Read Plain) (l : List ℕ) (row at : ℕ) where
       turn : Step → ℕ → Read (Option Plain)
       turn x past =
           at_child
-          (cond (complete row) (got none past) (bad 16 at))
-          (cond (is_optional (place row)) (got (some without) past) (bad 16 at))
-          (cond (eqb row 0) (bad 16 at) (bind (one (bare (place row)) at) (λ y behind. got (some y) behind)))
+          (cond (complete row) (got None past) (bad 16 at))
+          (cond (is_optional (place row)) (got (Some without) past) (bad 16 at))
+          (cond (eqb row 0) (bad 16 at) (bind (one (bare (place row)) at) (λ y behind. got (Some y) behind)))
           (bad 16 at)
           x
 
@@ -242,32 +245,26 @@ module _ (one : ℕ → ℕ → Read Plain) (l : List ℕ) (row at : ℕ) where
       go _ (wrong w) = refl
 
   pub child_unclosed : stands l at 6 1 ≡ true → complete row ≡ false → child_from one l row at ≡ bad 16 at
-  child_unclosed e f = child_close e ∙ ap (λ (t : Bool). cond t (got none (at + 1)) (bad 16 at)) f
+  child_unclosed e f = child_close e ∙ ap (λ (t : Bool). cond t (got None (at + 1)) (bad 16 at)) f
 
-  pub child_due : stands l at 5 1 ≡ true → ¬ (row / 16384 % 2 ≡ 1) → child_from one l row at ≡ bad 16 at
-  child_due e f =
-      let o : is_optional (place row) ≡ false = ne_eqb (row % 65536 / 16384 % 2) 1 (λ w. f (omega arith)) in
-      child_absent e ∙ ap (λ (t : Bool). cond t (got (some without) (at + 1)) (bad 16 at)) o
+  pub child_due : stands l at 5 1 ≡ true → is_optional (place row) ≡ false → child_from one l row at ≡ bad 16 at
+  child_due e o = child_absent e ∙ ap (λ (t : Bool). cond t (got (Some without) (at + 1)) (bad 16 at)) o
 
   pub child_spare : stands l at 2 10 ≡ true → row ≡ 0 → child_from one l row at ≡ bad 16 at
   child_spare e z =
       child_open e
-      ∙ ap (λ (t : Bool). cond t (bad 16 at) (bind (one (bare (place row)) at) (λ y behind. got (some y) behind))) (eq-eqb row 0 z)
+      ∙ ap (λ (t : Bool). cond t (bad 16 at) (bind (one (bare (place row)) at) (λ y behind. got (Some y) behind))) (eq-eqb row 0 z)
 
   pub child_there : stands l at 2 10 ≡ true → ¬ (row ≡ 0)
-      → child_from one l row at ≡ bind (one (bare (place row)) at) (λ y behind. got (some y) behind)
+      → child_from one l row at ≡ bind (one (bare (place row)) at) (λ y behind. got (Some y) behind)
   child_there e z =
       child_open e
-      ∙ ap (λ (t : Bool). cond t (bad 16 at) (bind (one (bare (place row)) at) (λ y behind. got (some y) behind))) (ne_eqb row 0 z)
-
--- a place that may be empty
-pub optional : (row : ℕ) → row / 16384 % 2 ≡ 1 → is_optional (place row) ≡ true
-optional row e = eq-eqb (row % 65536 / 16384 % 2) 1 (omega arith)
+      ∙ ap (λ (t : Bool). cond t (bad 16 at) (bind (one (bare (place row)) at) (λ y behind. got (Some y) behind))) (ne_eqb row 0 z)
 
 -- one turn after the other
 abbrev pub next_turn : (ℕ → ℕ → Read Plain) → List ℕ → ℕ → ℕ → Option Plain → ℕ → Read Plains
-next_turn one l n row none past = got done past
-next_turn one l n row (some y) past = bind (children_from one l n (after row) past) (λ ys end. got (y next ys) end)
+next_turn one l n row None past = got done past
+next_turn one l n row (Some y) past = bind (children_from one l n (after row) past) (λ ys end. got (y next ys) end)
 
 pub children_turn : (one : ℕ → ℕ → Read Plain) (l : List ℕ) (n row at : ℕ)
     → children_from one l (suc n) row at ≡ bind (child_from one l row at) (next_turn one l n row)
@@ -283,7 +280,7 @@ children_turn one l n row at = go (step_from l at)
     cut_first false x m q k = refl
 
     through : (r : Read Plain)
-        → bind (bind r (λ y behind. got (some y) behind)) (next_turn one l n row)
+        → bind (bind r (λ y behind. got (Some y) behind)) (next_turn one l n row)
         ≡ bind r (λ y behind. bind (children_from one l n (after row) behind) (λ ys end. got (y next ys) end))
     through (got y q) = refl
     through (bad m q) = refl
@@ -302,9 +299,9 @@ children_turn one l n row at = go (step_from l at)
         (bind r
         (λ x past.
         at_child
-        (cond (complete row) (got none past) (bad 16 at))
-        (cond (is_optional (place row)) (got (some without) past) (bad 16 at))
-        (cond (eqb row 0) (bad 16 at) (bind (one (bare (place row)) at) (λ y behind. got (some y) behind)))
+        (cond (complete row) (got None past) (bad 16 at))
+        (cond (is_optional (place row)) (got (Some without) past) (bad 16 at))
+        (cond (eqb row 0) (bad 16 at) (bind (one (bare (place row)) at) (λ y behind. got (Some y) behind)))
         (bad 16 at)
         x))
         (next_turn one l n row)
@@ -312,9 +309,9 @@ children_turn one l n row at = go (step_from l at)
     go (got (comment_step a b) past) = refl
     go (got (text_step a b) past) = refl
     go (got (payload_step a) past) = refl
-    go (got close_step past) = sym (cut_short (complete row) (got none past) 16 at (next_turn one l n row))
-    go (got absent_step past) = sym (cut_short (is_optional (place row)) (got (some without) past) 16 at (next_turn one l n row))
+    go (got close_step past) = sym (cut_short (complete row) (got None past) 16 at (next_turn one l n row))
+    go (got absent_step past) = sym (cut_short (is_optional (place row)) (got (Some without) past) 16 at (next_turn one l n row))
     go (got (open_step a b c) past) =
         sym
-        (cut_first (eqb row 0) (bind (one (bare (place row)) at) (λ y behind. got (some y) behind)) 16 at (next_turn one l n row)
+        (cut_first (eqb row 0) (bind (one (bare (place row)) at) (λ y behind. got (Some y) behind)) 16 at (next_turn one l n row)
         ∙ ap (λ (z : Read Plains). cond (eqb row 0) (bad 16 at) z) (through (one (bare (place row)) at)))

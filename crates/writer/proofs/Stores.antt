@@ -1,14 +1,13 @@
 -- Bytes put into an output in another order than they stand in.
 -- Assumes nothing.
-use mathlib.Core.Path.{◌≡◌, refl, sym, ap, ap₂, ◌∙◌}
+use mathlib.Core.Path.{◌≡◌, refl, sym, ap, ◌∙◌}
 use mathlib.Core.List.{List, [], ◌∷◌, ◌++◌}
-use Prim.Native.Nat.{ℕ, suc, ◌+◌, ◌-◌, ◌/◌, ◌%◌, ◌≤◌, ◌<◌}
+use Prim.Native.Nat.{ℕ, suc, ◌+◌, ◌/◌, ◌%◌, ◌≤◌}
 use native.Mathlib.Omega.{arith}
 use native.Mathlib.Numerals.{add-one, add-two, add-three}
-use lib.ListN.{length, set, get_or, take, drop, length-set}
-use lib.Seq.{sets, set_comm, drop-cons}
+use lib.ListN.{length, set}
+use lib.Seq.{sets, set_comm}
 use Rattle.laws.proofs.Stores.{sets_append}
-use Rattle.image.specs.Bytes.{part}
 use Rattle.image.specs.Write.{bytes4}
 use Rattle.steps.specs.Steps.{bytes2}
 
@@ -43,51 +42,6 @@ four_put s₀ s₁ s₂ s₃ s₄ i n p₁ p₂ p₃ p₄ =
     let e₃ : n % 4294967296 / 256 % 256 ≡ n / 256 % 256 = omega arith in
     let e₄ : n % 4294967296 % 256 ≡ n % 256 = omega arith in
     cc (add-one i, add-two i, add-three i)
-
-part_cons : (x : List ℕ) (at to : ℕ) → at < to → to ≤ length x → part at to x ≡ get_or x at 0 ∷ part (suc at) to x
-part_cons x at to h far =
-    let n : to - at ≡ suc (to - suc at) = omega arith in
-    ap₂ (λ (k : ℕ) (u : List ℕ). take k u) n (drop-cons x at 0 (omega arith))
-
-part_none : (x : List ℕ) (at : ℕ) → part at at x ≡ []
-part_none x at =
-    let n : at - at ≡ 0 = omega arith in
-    ap (λ (k : ℕ). take k (drop at x)) n
-
--- what is copied up to `at`, and the rest is ahead
-pub record Copying (x : List ℕ) (from to : ℕ) (out₀ : List ℕ) (pos : ℕ) (out : List ℕ) (at : ℕ) : Type 0 where
-  pub begun : from ≤ at
-  pub within : at ≤ to
-  pub room : length out ≡ length out₀
-  pub ahead : sets out (pos + (at - from)) (part at to x) ≡ sets out₀ pos (part from to x)
-
-pub copying_none : (x : List ℕ) (from to : ℕ) (out : List ℕ) (pos : ℕ) → from ≤ to → Copying x from to out pos out from
-copying_none x from to out pos h =
-    let e : pos + (from - from) ≡ pos = omega arith in
-    record { begun = omega arith; within = h; room = refl; ahead = ap (λ (k : ℕ). sets out k (part from to x)) e }
-
-pub copying_one : (x : List ℕ) (from to : ℕ) (out₀ : List ℕ) (pos : ℕ) (out o : List ℕ) (at : ℕ) → to ≤ length x → at < to
-    → Copying x from to out₀ pos out at → o ≡ set out (pos + (at - from)) (get_or x at 0) → Copying x from to out₀ pos o (at + 1)
-copying_one x from to out₀ pos out o at far h c e =
-    let next : pos + (at + 1 - from) ≡ suc (pos + (at - from)) = omega (arith, c.begun) in
-    let more : at + 1 ≡ suc at = omega arith in
-    record {
-      begun = omega (arith, c.begun);
-      within = omega arith;
-      room = ap length e ∙ length-set out (pos + (at - from)) (get_or x at 0) ∙ c.room;
-      ahead =
-          ap₂ (λ (k i : ℕ). sets o k (part i to x)) next more
-          ∙ ap (λ (u : List ℕ). sets u (suc (pos + (at - from))) (part (suc at) to x)) e
-          ∙ ap (λ (u : List ℕ). sets out (pos + (at - from)) u) (sym (part_cons x at to h far))
-          ∙ c.ahead;
-    }
-
-pub copying_all : (x : List ℕ) (from to : ℕ) (out₀ : List ℕ) (pos : ℕ) (out : List ℕ) (at : ℕ) → Copying x from to out₀ pos out at → to ≤ at
-    → out ≡ sets out₀ pos (part from to x)
-copying_all x from to out₀ pos out at c h =
-    let same : at ≡ to = omega (arith, c.within) in
-    let none : part at to x ≡ [] = ap (λ (k : ℕ). part k to x) same ∙ part_none x to in
-    sym (ap (λ (u : List ℕ). sets out (pos + (at - from)) u) none) ∙ c.ahead
 
 -- the two bytes of a number
 pub two_put : (s₀ s₁ s₂ : List ℕ) (i n : ℕ) → s₁ ≡ set s₀ i (n / 256) → s₂ ≡ set s₁ (i + 1) (n % 256) → s₂ ≡ sets s₀ i (bytes2 n)

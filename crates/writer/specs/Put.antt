@@ -1,15 +1,15 @@
 -- What a run over a list of steps leaves. It checks the list and puts the image's bytes into its output, where bytes past the output's end are
 -- dropped: over an output without room it counts.
-use Rattle.std.specs.Prelude.{◌≡◌, true, cond, List, ℕ, ◌+◌, ◌*◌, ◌≤◌, ltb, length}
-use Rattle.std.proofs.Math.Option.{Option, none, some}
+use Rattle.std.specs.Prelude.{◌≡◌, true, cond, List, ℕ, ◌+◌, ◌*◌, ◌≤◌, ltb, length, Option, None, Some, Result, Ok, Err}
 use Rattle.std.proofs.lemmas.List.Edits.{sets}
+use Rattle.refusals.specs.Reasons.{number_of}
+use Rattle.refusals.specs.declared.Refused.{Refused}
 use Rattle.image.specs.Read.{Read, got, bad}
 use Rattle.image.specs.Write.{Plain, written}
 use Rattle.steps.specs.Rows.{short}
 use Rattle.writer.specs.declared.output.Reached.{Reached}
-use Rattle.writer.specs.declared.output.Reached.TheVariants.{Next, Fault}
 use Rattle.writer.specs.declared.records.Child.{Child}
-use Rattle.writer.specs.declared.records.Child.TheVariants.{Closed, Laid, Wrong}
+use Rattle.writer.specs.declared.records.Child.TheVariants.{Closed, Laid}
 
 -- ---- what it leaves
 -- where the list goes on, the place behind what was put, and the output; a refusal's number and place; or where the list goes on behind the step
@@ -29,19 +29,19 @@ put_by f pos out (got a end) = up_to end (pos + length (f a)) (sets out pos (f a
 put_by f pos out (bad n p) = fault n p
 
 abbrev pub child_by : ℕ → List ℕ → Read (Option Plain) → Ran
-child_by pos out (got none past) = closed past out
-child_by pos out (got (some x) past) = up_to past (pos + length (written x)) (sets out pos (written x))
+child_by pos out (got None past) = closed past out
+child_by pos out (got (Some x) past) = up_to past (pos + length (written x)) (sets out pos (written x))
 child_by pos out (bad n p) = fault n p
 
 -- what each answer stands for, with the output at exit
-abbrev pub put_of : Reached → List ℕ → Ran
-put_of (Next at pos) out = up_to at pos out
-put_of (Fault n p) out = fault n p
+abbrev pub put_of : Result Reached Refused → List ℕ → Ran
+put_of (Ok r) out = up_to r.at r.pos out
+put_of (Err r) out = fault (number_of r.reason) r.place
 
-abbrev pub child_of : Child → List ℕ → Ran
-child_of (Closed at) out = closed at out
-child_of (Laid at pos) out = up_to at pos out
-child_of (Wrong n p) out = fault n p
+abbrev pub child_of : Result Child Refused → List ℕ → Ran
+child_of (Ok (Closed at)) out = closed at out
+child_of (Ok (Laid r)) out = up_to r.at r.pos out
+child_of (Err r) out = fault (number_of r.reason) r.place
 
 -- ---- no sum wraps
 -- An absent child has one byte in the list and four in the image; of every other step the image has no more than twice its bytes. So what is put

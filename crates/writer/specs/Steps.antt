@@ -1,6 +1,5 @@
 -- What the code sees of a list of steps.
-use Rattle.std.specs.Prelude.{Bool, true, false, cond, ◌&&◌, List, ℕ, ◌+◌, leb, eqb, length, get_or}
-use Rattle.std.proofs.Math.Option.{Option, none, some}
+use Rattle.std.specs.Prelude.{Bool, true, false, cond, ◌&&◌, List, ℕ, ◌+◌, leb, eqb, length, get_or, Option, None, Some}
 use Rattle.image.specs.Grammar.{is_optional, bare, place, complete}
 use Rattle.image.specs.Read.{Read, got, bad, bind}
 use Rattle.image.specs.Write.{Plain, without}
@@ -21,8 +20,8 @@ child_from one l row at =
     bind (step_from l at)
     (λ x past.
     at_child
-    (cond (complete row) (got none past) (bad 16 at))
-    (cond (is_optional (place row)) (got (some without) past) (bad 16 at))
-    (cond (eqb row 0) (bad 16 at) (bind (one (bare (place row)) at) (λ y behind. got (some y) behind)))
+    (cond (complete row) (got None past) (bad 16 at))
+    (cond (is_optional (place row)) (got (Some without) past) (bad 16 at))
+    (cond (eqb row 0) (bad 16 at) (bind (one (bare (place row)) at) (λ y behind. got (Some y) behind)))
     (bad 16 at)
     x)

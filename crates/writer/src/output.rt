@@ -1,15 +1,14 @@
 // Bytes put into an output. Those past its end are dropped, so that a run over an output without room counts what it needs.
 ghost use Rattle.std.specs.Prelude.{◌≡◌, ◌+◌, ◌-◌, ◌%◌, ◌≤◌, ◌<◌, ◌^◌, length, set};
 ghost use Rattle.std.proofs.lemmas.List.Edits.{sets};
-ghost use Rattle.image.specs.Bytes.{part};
 ghost use Rattle.image.specs.Write.{bytes4};
 ghost use Rattle.steps.specs.Steps.{bytes2};
 
-// Where the list goes on and the place behind what was put, or a refusal's number and place.
-#[derive(Drop)]
-pub enum Reached {
-    Next(usize, usize),
-    Fault(u8, usize),
+// Where the list goes on, and the place behind what was put.
+#[derive(Clone, Copy)]
+pub struct Reached {
+    pub at: usize,
+    pub pos: usize,
 }
 
 pub(crate) fn put(out: &mut [u8], pos: usize, x: u8)
@@ -40,14 +39,12 @@ pub(crate) fn put32(out: &mut [u8], pos: usize, n: usize)
     put(out, pos + 3, (n % 256) as u8);
 }
 
-// The bytes of x from `from` to `to`.
-pub(crate) fn copy(x: &[u8], from: usize, to: usize, out: &mut [u8], pos: usize)
-    requires { (from ≤ to) × ((to ≤ length x.now) × (pos + (to - from) < 2 ^ 64)) }
-    ensures { out.new ≡ sets out.old pos (part from to x.now) }
+// Bytes, one behind the other.
+pub(crate) fn copy(x: &[u8], out: &mut [u8], pos: usize)
+    requires { pos + length x.now < 2 ^ 64 }
+    ensures { out.new ≡ sets out.old pos x.now }
 {
-    let mut at = from;
-    while at < to {
-        put(out, pos + (at - from), x[at]);
-        at += 1;
+    for (i, byte) in x.iter().enumerate() {
+        put(out, pos + i, *byte);
     }
 }

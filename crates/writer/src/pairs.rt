@@ -8,45 +8,46 @@ ghost use Rattle.writer.specs.Put.{put_of, put_by};
 ghost use Rattle.writer.specs.Steps.{taken};
 
 use crate::output::{Reached, copy};
-use crate::step::{COMMENT_BYTES, COMMENT_STEP, stands};
+use crate::step::{COMMENT_BYTES, Code, stands};
 use image::bytes::num32;
 use image::limits::MAX_COMMENTS;
+use refusals::{Reason, Refused};
 
 // How many bytes a comment has in the image.
 pub(crate) const PAIR: usize = 8;
 
 // Whether the step at `at` is a comment that is neither empty nor reversed.
-fn pair_fits(l: &[u8], at: usize) -> bool
-    requires { at ≤ length l.now }
-    ensures { result ≡ taken (bind (step_from l.now at) (pair_by at)) }
+#[tactic(auto, using(crate::proofs::Seen::room_for))]
+fn pair_fits(steps: &[u8], at: usize) -> bool
+    requires { at ≤ length steps.now }
+    ensures { result ≡ taken (bind (step_from steps.now at) (pair_by at)) }
 {
-    if !stands(l, at, COMMENT_STEP, COMMENT_BYTES) {
+    if !stands(steps, at, Code::Comment, COMMENT_BYTES) {
         return false;
     }
-    num32(l, at + 1) < num32(l, at + 5)
+    num32(steps, at + 1) < num32(steps, at + 5)
 }
 
 // Puts the comments, up to the first other step.
-pub(crate) fn put_comments(l: &[u8], out: &mut [u8], start: usize) -> Reached
+#[tactic(auto, using(crate::proofs::Seen::room_for, crate::proofs::Commented::pair_fits))]
+pub(crate) fn put_comments(steps: &[u8], out: &mut [u8], start: usize) -> Result<Reached, Refused>
     requires { start ≤ 7 }
-    ensures { put_of result out.new ≡ put_by pair_bytes start out.old (comments_from l.now MAX_COMMENTS 0) }
+    ensures { put_of result out.new ≡ put_by pair_bytes start out.old (comments_from steps.now MAX_COMMENTS 0) }
 {
     let mut left = MAX_COMMENTS;
     let mut at = 0;
     let mut pos = start;
-    loop {
-        if !stands(l, at, COMMENT_STEP, 1) {
-            return Reached::Next(at, pos);
-        }
+    while stands(steps, at, Code::Comment, 1) {
         if left == 0 {
-            return Reached::Fault(16, at);
+            return Err(Reason::Steps.at(at));
         }
-        if !pair_fits(l, at) {
-            return Reached::Fault(16, at);
+        if !pair_fits(steps, at) {
+            return Err(Reason::Steps.at(at));
         }
-        copy(l, at + 1, at + COMMENT_BYTES, out, pos);
+        copy(&steps[at + 1..at + COMMENT_BYTES], out, pos);
         left -= 1;
         at += COMMENT_BYTES;
         pos += PAIR;
     }
+    Ok(Reached { at, pos })
 }

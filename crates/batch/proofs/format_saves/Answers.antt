@@ -7,14 +7,14 @@ pub overflow_mul-cells : goal.overflow_mul-cells
 overflow_mul-cells c = omega (arith, files_few _ _ c.requires)
 
 pub returns-then-table-cells : goal.returns-then-table-cells
-returns-then-table-cells c = refuses_table _ _ _ _ _ c.requires c.if-table-cells.true
+returns-then-table-cells c = rw c.at.ensures (refuses_table _ _ _ _ _ c.requires c.if-table-cells.true)
 
 pub count_texts-bytes-requires : goal.count_texts-bytes-requires
 count_texts-bytes-requires c = c.requires.passes
 
 pub returns-then-out-bytes : goal.returns-then-out-bytes
 returns-then-out-bytes c =
-    refuses_output _ _ _ _ _ c.requires c.if-table-cells.false _ c.count_texts-bytes.ensures c.if-out-bytes.true
+    rw c.at-then-out-bytes.ensures (refuses_output _ _ _ _ _ c.requires c.if-table-cells.false _ c.count_texts-bytes.ensures c.if-out-bytes.true)
 
 pub write_saves-requires : goal.write_saves-requires
 write_saves-requires c =

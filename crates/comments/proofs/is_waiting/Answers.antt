@@ -5,10 +5,10 @@ use Rattle.comments.specs.Listed.{given}
 use Rattle.acts.specs.Laid.{st}
 use Rattle.comments.proofs.is_waiting.Goals as goal
 
-pub returns-in-Nothing : goal.returns-in-Nothing
-returns-in-Nothing c =
-    λ s. sym (waits_none (given s c.args.image.now) _ (st c.args.c) (is_none _ c.front.ensures c.in-Nothing.is))
+pub returns-in-None : goal.returns-in-None
+returns-in-None c =
+    λ s. sym (waits_none (given s c.args.image.now) _ (st c.args.c) (is_none _ c.front.ensures c.in-None.is))
 
-pub returns-in-Comment : goal.returns-in-Comment
-returns-in-Comment c =
-    λ s. sym (waits_some (given s c.args.image.now) _ (st c.args.c) _ (is_some_lem _ c.front.ensures c.in-Comment.is))
+pub returns-in-Some : goal.returns-in-Some
+returns-in-Some c =
+    λ s. sym (waits_some (given s c.args.image.now) _ (st c.args.c) _ (is_some_lem _ c.front.ensures c.in-Some.is))

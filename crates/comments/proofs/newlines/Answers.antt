@@ -5,11 +5,11 @@ use Rattle.comments.proofs.newlines.Goals as goal
 
 pub break_line-d-requires : goal.break_line-d-requires
 break_line-d-requires c =
-    rw c.newlines_from-n.ensures (room_newlines (given c.args.source.now []) c.args.position c.requires)
+    rw c.newlines_up_to-n.ensures (room_newlines (given c.args.source.now []) c.args.position c.requires)
 
 pub returns : goal.returns
 returns c =
     let a = c.args in
     λ b.
-    laid_newlines (given a.source.now b) a.position _ c.newlines_from-n.ensures
+    laid_newlines (given a.source.now b) a.position _ c.newlines_up_to-n.ensures
     c.break_line-d.ensures c.move_to.ensures

@@ -10,5 +10,5 @@ returns c =
     let a = c.args in
     let waits = sym (c.is_waiting.ensures a.source.now) ∙ c.if-is_waiting.false in
     rw c.uncounted.ensures
-    (laid_quiet (given a.source.now a.image.now) a.position a.leading a.trailing waits c.if-only.false
+    (laid_quiet (given a.source.now a.image.now) a.position a.kept.now.leading a.kept.now.trailing waits c.if-kept.false
     c.move_to.ensures)

@@ -1,12 +1,12 @@
 -- Each turn passes over a byte at least, until the last has come or the input ends.
 -- Assumes nothing.
-use Prim.Native.Nat.{◌≤◌}
+use Prim.Native.Nat.{◌-◌, ◌≤◌}
 use mathlib.Core.Path.{◌≡◌}
 use lib.ListN.{length}
 use Rattle.feed.proofs.pass_over.Given as goal
 
-abbrev pub invariant-loop-left : goal.invariant-loop-left
-invariant-loop-left g l = (length l.piece ≡ 65536) × (l.left ≤ l.n)
+abbrev pub invariant-loop-passed : goal.invariant-loop-passed
+invariant-loop-passed g l = (length l.piece ≡ 65536) × (l.passed ≤ l.n)
 
-abbrev pub decreases-loop-left : goal.decreases-loop-left
-decreases-loop-left g l = l.left
+abbrev pub decreases-loop-passed : goal.decreases-loop-passed
+decreases-loop-passed g l = l.n - l.passed

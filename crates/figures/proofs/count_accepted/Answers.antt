@@ -1,36 +1,29 @@
 -- The run of the file, and what is counted of what it leaves.
-use mathlib.Core.Path.{sym}
+use Rattle.std.proofs.Common.{sym}
+use Rattle.std.proofs.lemmas.Result.{err_from_is_err_and}
 use lib.Seq.{length-take-le}
 use Rattle.figures.proofs.Counting.{run_refused, text_inside, left_fits, figures_within, file_counted}
 use Rattle.figures.proofs.count_accepted.Goals as goal
 
-pub slice_bounds-out-end : goal.slice_bounds-out-end
-slice_bounds-out-end c =
-    text_inside _ _ _ _ _ c.rows-store.ensures c.marks-used.ensures c.output-out.ensures _ _
-    _ _ c.run_file.ensures _ _ _ _ _ c.in-Text.is _ c.requires
+pub returns-in_err-run : goal.returns-in_err-run
+returns-in_err-run c =
+    let p = err_from_is_err_and c.from_residual.result c.from_residual.ensures.1 in
+    rw (p.1, p.2)
+    (run_refused _ _ _ _ _ c.rows-store.ensures c.marks-used.ensures c.output-out.ensures _ _
+    _ _ c.run_file.ensures c.args.t _ c.in_err-run.was)
 
-pub slice_bounds-occurrences-end : goal.slice_bounds-occurrences-end
-slice_bounds-occurrences-end c =
-    sym (length-take-le _ _ (text_inside _ _ _ _ _ c.rows-store.ensures c.marks-used.ensures c.output-out.ensures _ _
-    _ _ c.run_file.ensures _ _ _ _ _ c.in-Text.is _ c.requires))
+pub returns : goal.returns
+returns c =
+    file_counted _ _ _ _ _ c.rows-store.ensures c.marks-used.ensures c.output-out.ensures _ _ _ _
+    c.run_file.ensures _ c.in_ok-run.was _ c.args.file.accepts _ _ c.occurrences.ensures
+    c.occurrences-2.ensures c.args.t _ c.count_figures.ensures
 
-pub overflow_sub-f : goal.overflow_sub-f
-overflow_sub-f c =
+pub overflow_sub-figures : goal.overflow_sub-figures
+overflow_sub-figures c =
     left_fits _ _ _ _ _ c.rows-store.ensures c.marks-used.ensures c.output-out.ensures
-    _ _ _ _ c.run_file.ensures _ _ _ _ _ c.in-Text.is _ c.requires
+    _ _ _ _ c.run_file.ensures _ c.in_ok-run.was _ c.args.file.accepts
 
 pub count_figures-requires : goal.count_figures-requires
 count_figures-requires c =
     figures_within _ _ _ _ _ c.rows-store.ensures c.marks-used.ensures c.output-out.ensures _ _ _ _ c.run_file.ensures
-    _ _ _ _ _ c.in-Text.is _ c.requires _ _ c.occurrences.ensures c.occurrences-in-Text.ensures
-
-pub returns-in-Stopped : goal.returns-in-Stopped
-returns-in-Stopped c =
-    run_refused _ _ _ _ _ c.rows-store.ensures c.marks-used.ensures c.output-out.ensures _ _
-    _ _ c.run_file.ensures c.args.t _ _ c.in-Stopped.is
-
-pub returns-in-Text : goal.returns-in-Text
-returns-in-Text c =
-    file_counted _ _ _ _ _ c.rows-store.ensures c.marks-used.ensures c.output-out.ensures _ _ _ _
-    c.run_file.ensures _ _ _ _ _ c.in-Text.is _ c.requires _ _ c.occurrences.ensures
-    c.occurrences-in-Text.ensures c.args.t _ c.count_figures.ensures
+    _ c.in_ok-run.was _ c.args.file.accepts _ _ c.occurrences.ensures c.occurrences-2.ensures

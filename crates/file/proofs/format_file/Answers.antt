@@ -1,12 +1,17 @@
 -- 1 to 7, and then the run of the accepted file.
-use mathlib.Core.Path.{sym, ap, ◌∙◌}
-use Rattle.image.specs.Read.{checked_answer}
+use Rattle.std.proofs.Common.{◌≡◌, sym, ap, ◌∙◌}
+use Rattle.std.proofs.lemmas.Result.{err_from_is_err_and, IfOk-at_ok}
+use Rattle.refusals.specs.Reasons.{answer_of}
+use Rattle.layout_call.specs.declared.accepted.Accepted.{Accepted}
 use Rattle.file.proofs.Steps.{check_refused}
 use Rattle.file.proofs.format_file.Goals as goal
 
-pub format_accepted-requires : goal.format_accepted-requires
-format_accepted-requires c =
-    record { answer = sym c.check.ensures ∙ ap checked_answer c.in-Accepted.is }
+pub returns-in_err-file : goal.returns-in_err-file
+returns-in_err-file c =
+    let p = err_from_is_err_and c.from_residual.result c.from_residual.ensures.1 in
+    rw (p.1, p.2) (check_refused _ _ _ _ _ (sym c.check.ensures.answer ∙ ap (answer_of (λ (a : Accepted). a.doc)) c.in_err-file.was))
 
-pub returns-in-Refused : goal.returns-in-Refused
-returns-in-Refused c = check_refused _ _ _ _ _ _ (sym c.check.ensures ∙ ap checked_answer c.in-Refused.is)
+pub returns : goal.returns
+returns c =
+    let same = IfOk-at_ok (λ (a : Accepted). (a.source.now ≡ c.args.source.now) × (a.image.now ≡ c.args.image.now)) c.in_ok-file.was c.check.ensures.same in
+    rw (same.0, same.1) at c.format_accepted.ensures

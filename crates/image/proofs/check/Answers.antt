@@ -1,28 +1,23 @@
 -- Refusals 1 and 2 by their tests; else the answer is the image's.
 -- Assumes nothing.
 use mathlib.Core.Path.{sym, ◌∙◌, ap}
-use Prim.Native.Nat.{ℕ}
 use Rattle.refusals.specs.Answers.{refused}
-use Rattle.text.specs.Utf8.{refusal_of}
+use Rattle.refusals.specs.Reasons.{refusal_in}
 use Rattle.image.specs.Read.{read_all}
-use Rattle.image.proofs.Texts.{checked_well, checked_bad, checked_place}
+use Rattle.refusals.proofs.Passed.{passed}
+use Rattle.image.proofs.Texts.{checked_well, checked_bad}
 use Rattle.image.proofs.check.Goals as goal
 
-pub returns-then-not-source_fits : goal.returns-then-not-source_fits
+pub returns-in_err-check : goal.returns-in_err-check
 unfolding read_all
-returns-then-not-source_fits c = simp (sym c.source_fits.ensures ∙ c.if-not-source_fits.true)
+returns-in_err-check c =
+    let e = checked_bad _ _ (sym c.check.ensures ∙ ap refusal_in c.in_err-check.was) in
+    simp (sym c.source_fits.ensures ∙ c.if-not-source_fits.false, e.0) (passed _ _ _ c.from_residual.ensures.1 ∙ ap refused e.1)
 
-pub returns-in-Bad : goal.returns-in-Bad
+pub returns : goal.returns
 unfolding read_all
-returns-in-Bad c =
-    let e = sym c.check.ensures ∙ ap refusal_of c.in-Bad.is in
-    simp (sym c.source_fits.ensures ∙ c.if-not-source_fits.false, checked_bad _ _ e)
-    (ap (λ (x : ℕ). refused (record { number = 2; place = x })) (checked_place _ _ e))
-
-pub returns-in-WellFormed : goal.returns-in-WellFormed
-unfolding read_all
-returns-in-WellFormed c =
+returns c =
     simp (
       sym c.source_fits.ensures ∙ c.if-not-source_fits.false,
-      checked_well _ (sym c.check.ensures ∙ ap refusal_of c.in-WellFormed.is),
+      checked_well _ (sym c.check.ensures ∙ ap refusal_in c.in_ok-check.was),
     ) c.read_image.ensures

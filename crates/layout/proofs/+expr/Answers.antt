@@ -2,12 +2,15 @@ use Prim.Native.Nat.{◌+◌, ℕ, ◌*◌, ◌-◌, ◌/◌}
 use mathlib.Core.Path.{◌∙◌, ◌≡◌, refl, sym, ap, subst}
 use native.Mathlib.Omega.{arith}
 use Rattle.acts.proofs.Laws.{room_first, room_next, lays_then, lays_if, lays_else, room_if, room_else, lays, lays_skip}
-use Rattle.layout.proofs.Lays.{lays_as, laid_as, has_at, lays_tail, lays_all, lays_list, laid_all, laid_list, lays_empty, laid_tail}
+use Rattle.layout.proofs.Lays.{lays_as, laid_as, has_at, lays_tail, lays_all, laid_all, laid_tail}
 use Rattle.tree.specs.At.{ExprAt, StmtAt}
 use Rattle.acts.proofs.Nested.{opens_group, room_group, lays_group, opens_indent_next, room_indent_next, lays_indent_next, opens_indent, room_indent, opens_called, room_called, room_called_next, lays_called, lays_indent}
 use Rattle.layout.specs.Layout as rules
+use lib.Dec.{ltb}
+use Rattle.layout.specs.Ranks.{rank}
+use Rattle.layout.proofs.Ranks.{below_rank}
+use Rattle.layout.specs.declared.forms.Precedence.TheVariants.{Chain}
 use Rattle.layout.proofs.Places.{within, expr_whole, maybe_expr_lem, pattern_whole, ident_whole, maybe_type, head_whole, path_whole, absent, present, block_whole, maybe_block_lem, stmt_whole}
-use borrow.Author.Tests.{lt-ltb, le-ltb}
 use Rattle.layout.proofs.ExprForms.{comma_laid, comma_room, whole_has, whole_laid, next, expr_is, expr_kind, expr_has, expr_laid}
 use Rattle.image.specs.Bytes.{be32}
 use Rattle.image.specs.Read.{stop_at}
@@ -17,11 +20,12 @@ use Rattle.comments.specs.Listed.{given}
 use Rattle.layout.specs.Forms.{four, expr_with}
 use Rattle.layout.proofs.Operands.{above_size, chain_room, chain_laid, chain_form, above_at, Going, going_next, operator_has, right_has, going_step, going_end}
 use Rattle.layout.proofs.Bodies.{block_parts, block_has, block_laid, body_has, body_laid, part_whole, text_has, value_has, text_laid, value_laid, parts_first, part_has, parts_rest, parts_none, parts_more, let_has, import_has, does_has, let_laid, import_stmt_lem, does_laid, stmts_first, before_stmt_room, stmt_has, after_stmt_room, stmts_rest, stmts_none, stmts_more}
-use Rattle.layout.proofs.Runs.{elem_of, elem_laid, list_of, grouped_elems_lem, expr_elems_lem, arm_elems_lem, entry_elems_lem, elems_first, before_room, elem_has, elems_rest, elems_none, elems_more, empty_has, empty_laid, begins, elems_all, elems_done, list_laid}
+use Rattle.layout.specs.Elems.{EntryAt, entry_rule, ArmAt, arm_rule, grouped_rule}
+use Rattle.layout.proofs.Listing.{has_each, lays_each}
+use Rattle.layout.proofs.Runs.{list_of, grouped_elems_lem, expr_elems_lem, arm_elems_lem, entry_elems_lem}
 use lib.ListN.{get_or}
-use Rattle.rows.specs.Words.{table}
+use Rattle.acts.specs.Spelling.{spelling}
 use Rattle.layout.proofs.Optionals.{has_block, no_else, some_else, has_last, no_last, some_last, has_expr, no_maybe, some_maybe}
-use Rattle.layout.proofs.Symbols.{return_word_lem}
 use mathlib.Core.Bool.{true, false}
 use Rattle.layout.specs.Chains.{Above, grown}
 use Rattle.layout.proofs.+expr.Goals as goal
@@ -33,12 +37,12 @@ access-second-p-requires t c = within (expr_whole _ _ _ c.requires.tree.1.0 c.re
 pub access-open_group-g-requires : goal.access-open_group-g-requires
 unfolding ExprAt rules.expr_with_precedence
 access-open_group-g-requires t c =
-    opens_group _ (room_if _ (lt-ltb _ _ c.if-outer-lt-CHAIN.true) c.requires.room)
+    opens_group _ (room_if _ (sym (below_rank c.args.outer Chain) ∙ sym c.lt.ensures ∙ c.if-lt.true) c.requires.room)
 
 pub access-open_indent_next-i-requires : goal.access-open_indent_next-i-requires
 unfolding ExprAt rules.expr_with_precedence
 access-open_indent_next-i-requires t c =
-    opens_indent_next _ (room_group _ (room_if _ (lt-ltb _ _ c.if-outer-lt-CHAIN.true) c.requires.room) c.open_group-g.ensures)
+    opens_indent_next _ (room_group _ (room_if _ (sym (below_rank c.args.outer Chain) ∙ sym c.lt.ensures ∙ c.if-lt.true) c.requires.room) c.open_group-g.ensures)
 
 pub access-overflow_add-at : goal.access-overflow_add-at
 unfolding ExprAt
@@ -55,7 +59,7 @@ access-expr_with_precedence-d-requires t c = (
     held = c.requires.held.1.0;
     room =
         room_first _ (room_indent_next
-        (room_group _ (room_if _ (lt-ltb _ _ c.if-outer-lt-CHAIN.true) c.requires.room) c.open_group-g.ensures)
+        (room_group _ (room_if _ (sym (below_rank c.args.outer Chain) ∙ sym c.lt.ensures ∙ c.if-lt.true) c.requires.room) c.open_group-g.ensures)
         c.open_indent_next-i.ensures);
   },
 )
@@ -68,7 +72,7 @@ access-field_name-e-requires t c =
       tree = c.requires.tree.1.1;
       held = c.requires.held.1.1;
       room =
-          room_next (room_indent_next (room_group _ (room_if _ (lt-ltb _ _ c.if-outer-lt-CHAIN.true) c.requires.room) c.open_group-g.ensures)
+          room_next (room_indent_next (room_group _ (room_if _ (sym (below_rank c.args.outer Chain) ∙ sym c.lt.ensures ∙ c.if-lt.true) c.requires.room) c.open_group-g.ensures)
           c.open_indent_next-i.ensures)
           ((lays_as c.requires.accepted c.expr_with_precedence-d.ensures).of c.requires.tree.1.0
           c.requires.held.1.0);
@@ -77,23 +81,23 @@ access-field_name-e-requires t c =
 pub access-close-requires : goal.access-close-requires
 access-close-requires t c = tt
 
-pub access-close-requires-then-outer-lt-CHAIN : goal.access-close-requires-then-outer-lt-CHAIN
-access-close-requires-then-outer-lt-CHAIN t c = tt
+pub access-close-requires-then-lt : goal.access-close-requires-then-lt
+access-close-requires-then-lt t c = tt
 
-pub access-returns-then-outer-lt-CHAIN : goal.access-returns-then-outer-lt-CHAIN
+pub access-returns-then-lt : goal.access-returns-then-lt
 unfolding ExprAt rules.expr_with_precedence
-access-returns-then-outer-lt-CHAIN t c =
+access-returns-then-lt t c =
     laid_as
     (record {
       of =
           λ x a.
-          lays_if _ (lt-ltb _ _ c.if-outer-lt-CHAIN.true)
+          lays_if _ (sym (below_rank c.args.outer Chain) ∙ sym c.lt.ensures ∙ c.if-lt.true)
           (lays_group _ c.open_group-g.ensures
           (lays_indent_next c.open_indent_next-i.ensures
           (lays_then ((lays_as c.requires.accepted c.expr_with_precedence-d.ensures).of x.1.0 a.1.0)
           ((lays_as c.requires.accepted c.field_name-e.ensures).of x.1.1 (rw c.second-p.ensures a.1.1)))
           c.close.ensures)
-          c.close-then-outer-lt-CHAIN.ensures);
+          c.close-then-lt.ensures);
     })
 
 pub access-overflow_add-at-2 : goal.access-overflow_add-at-2
@@ -109,7 +113,7 @@ access-expr_with_precedence-d-requires-2 t c = (
     accepted = c.requires.accepted;
     tree = c.requires.tree.1.0;
     held = c.requires.held.1.0;
-    room = room_first _ (room_else _ (le-ltb _ _ c.if-outer-lt-CHAIN.false) c.requires.room);
+    room = room_first _ (room_else _ (sym (below_rank c.args.outer Chain) ∙ sym c.lt.ensures ∙ c.if-lt.false) c.requires.room);
   },
 )
 
@@ -121,7 +125,7 @@ access-field_name-requires t c =
       tree = c.requires.tree.1.1;
       held = c.requires.held.1.1;
       room =
-          room_next (room_else _ (le-ltb _ _ c.if-outer-lt-CHAIN.false) c.requires.room) ((lays_as c.requires.accepted
+          room_next (room_else _ (sym (below_rank c.args.outer Chain) ∙ sym c.lt.ensures ∙ c.if-lt.false) c.requires.room) ((lays_as c.requires.accepted
           c.expr_with_precedence-d-2.ensures).of c.requires.tree.1.0 c.requires.held.1.0);
     })
 
@@ -132,7 +136,7 @@ access-returns t c =
     (record {
       of =
           λ x a.
-          lays_else _ (le-ltb _ _ c.if-outer-lt-CHAIN.false)
+          lays_else _ (sym (below_rank c.args.outer Chain) ∙ sym c.lt.ensures ∙ c.if-lt.false)
           (lays_then ((lays_as c.requires.accepted c.expr_with_precedence-d-2.ensures).of x.1.0 a.1.0)
           ((lays_as c.requires.accepted c.field_name.ensures).of x.1.1 (rw c.second-p.ensures a.1.1)));
     })
@@ -336,7 +340,7 @@ binop-leftmost-left-requires t c = record {
 pub binop-open_group-g-requires : goal.binop-open_group-g-requires
 unfolding ExprAt
 binop-open_group-g-requires t c =
-    let same : rules.binop_precedence c.requires.tree.1.2 ≡ c.precedence-q.result =
+    let same : rules.binop_precedence c.requires.tree.1.2 ≡ (rank c.precedence-q.result) =
     ap rules.binop_precedence (sym c.requires.held.1.1.which.byte) ∙ sym c.precedence-q.ensures
     in
     let st = c.leftmost-left.ensures.of c.args.s.now c.requires.tree c.requires.held same in
@@ -346,7 +350,7 @@ binop-open_group-g-requires t c =
 pub binop-expr_with_precedence-d-requires : goal.binop-expr_with_precedence-d-requires
 unfolding ExprAt
 binop-expr_with_precedence-d-requires t c =
-    let same : rules.binop_precedence c.requires.tree.1.2 ≡ c.precedence-q.result =
+    let same : rules.binop_precedence c.requires.tree.1.2 ≡ (rank c.precedence-q.result) =
     ap rules.binop_precedence (sym c.requires.held.1.1.which.byte) ∙ sym c.precedence-q.ensures
     in
     let st = c.leftmost-left.ensures.of c.args.s.now c.requires.tree c.requires.held same in
@@ -363,7 +367,7 @@ binop-expr_with_precedence-d-requires t c =
 pub binop-line_or_space-e-requires : goal.binop-line_or_space-e-requires
 unfolding ExprAt
 binop-line_or_space-e-requires t c =
-    let same : rules.binop_precedence c.requires.tree.1.2 ≡ c.precedence-q.result =
+    let same : rules.binop_precedence c.requires.tree.1.2 ≡ (rank c.precedence-q.result) =
     ap rules.binop_precedence (sym c.requires.held.1.1.which.byte) ∙ sym c.precedence-q.ensures
     in
     let st = c.leftmost-left.ensures.of c.args.s.now c.requires.tree c.requires.held same in
@@ -374,7 +378,7 @@ binop-line_or_space-e-requires t c =
 pub binop-open_indent-i-requires : goal.binop-open_indent-i-requires
 unfolding ExprAt
 binop-open_indent-i-requires t c =
-    let same : rules.binop_precedence c.requires.tree.1.2 ≡ c.precedence-q.result =
+    let same : rules.binop_precedence c.requires.tree.1.2 ≡ (rank c.precedence-q.result) =
     ap rules.binop_precedence (sym c.requires.held.1.1.which.byte) ∙ sym c.precedence-q.ensures
     in
     let st = c.leftmost-left.ensures.of c.args.s.now c.requires.tree c.requires.held same in
@@ -386,7 +390,7 @@ binop-open_indent-i-requires t c =
 pub binop-tail-f-requires : goal.binop-tail-f-requires
 unfolding ExprAt
 binop-tail-f-requires t c =
-    let same : rules.binop_precedence c.requires.tree.1.2 ≡ c.precedence-q.result =
+    let same : rules.binop_precedence c.requires.tree.1.2 ≡ (rank c.precedence-q.result) =
     ap rules.binop_precedence (sym c.requires.held.1.1.which.byte) ∙ sym c.precedence-q.ensures
     in
     let st = c.leftmost-left.ensures.of c.args.s.now c.requires.tree c.requires.held same in
@@ -396,11 +400,11 @@ binop-tail-f-requires t c =
         accepted = c.requires.accepted;
         tree = syntax.expr c.requires.tree.0 (four bin_op c.requires.tree.1);
         held = c.requires.held;
-        precedence = c.precedence-q.result;
+        precedence = (rank c.precedence-q.result);
         low = st.tree;
         above = st.above;
         filled = c.leftmost-left.ensures.filled;
-        head = expr_with c.precedence-q.result (given c.args.s.now c.args.b.now) st.tree;
+        head = expr_with (rank c.precedence-q.result) (given c.args.s.now c.args.b.now) st.tree;
         room =
             room_indent (room_next (room_next (room_group _ room c.open_group-g.ensures)
             ((lays_as c.requires.accepted c.expr_with_precedence-d.ensures).of st.tree st.held))
@@ -422,7 +426,7 @@ binop-returns t c =
     (record {
       of =
           λ x a.
-          let same : rules.binop_precedence x.1.2 ≡ c.precedence-q.result =
+          let same : rules.binop_precedence x.1.2 ≡ (rank c.precedence-q.result) =
           ap rules.binop_precedence (sym a.1.1.which.byte) ∙ sym c.precedence-q.ensures in
           let st = c.leftmost-left.ensures.of c.args.s.now x a same in
           rw (chain_form _ _ x _ _ _ st same)
@@ -579,7 +583,7 @@ call-second-p-requires t c = within (expr_whole _ _ _ c.requires.tree.1.0 c.requ
 pub call-open_call-i-requires : goal.call-open_call-i-requires
 unfolding ExprAt rules.expr_with_precedence
 call-open_call-i-requires t c =
-    opens_called _ _ (room_if _ (lt-ltb _ _ c.if-outer-lt-CHAIN.true) c.requires.room)
+    opens_called _ _ (room_if _ (sym (below_rank c.args.outer Chain) ∙ sym c.lt.ensures ∙ c.if-lt.true) c.requires.room)
 
 pub call-overflow_add-at : goal.call-overflow_add-at
 unfolding ExprAt
@@ -594,7 +598,7 @@ call-expr_with_precedence-d-requires t c = (
     accepted = c.requires.accepted;
     tree = c.requires.tree.1.0;
     held = c.requires.held.1.0;
-    room = room_called _ (room_if _ (lt-ltb _ _ c.if-outer-lt-CHAIN.true) c.requires.room) c.open_call-i.ensures;
+    room = room_called _ (room_if _ (sym (below_rank c.args.outer Chain) ∙ sym c.lt.ensures ∙ c.if-lt.true) c.requires.room) c.open_call-i.ensures;
   },
 )
 
@@ -608,7 +612,7 @@ call-function_args-e-requires t c =
         tree = (c.requires.tree.1.1, c.requires.tree.1.2);
         held = (c.requires.held.1.1, c.requires.held.1.2);
         room =
-            room_called_next (room_if _ (lt-ltb _ _ c.if-outer-lt-CHAIN.true) c.requires.room)
+            room_called_next (room_if _ (sym (below_rank c.args.outer Chain) ∙ sym c.lt.ensures ∙ c.if-lt.true) c.requires.room)
             c.open_call-i.ensures ((lays_as c.requires.accepted
             c.expr_with_precedence-d.ensures).of c.requires.tree.1.0 c.requires.held.1.0);
       },
@@ -620,15 +624,15 @@ call-set_second-requires t c = tt
 pub call-close-requires : goal.call-close-requires
 call-close-requires t c = tt
 
-pub call-returns-then-outer-lt-CHAIN : goal.call-returns-then-outer-lt-CHAIN
+pub call-returns-then-lt : goal.call-returns-then-lt
 unfolding ExprAt rules.expr_with_precedence
-call-returns-then-outer-lt-CHAIN t c =
+call-returns-then-lt t c =
     laid_as
     (let l = rw c.second-p.ensures at (lays_as c.requires.accepted c.function_args-e.ensures) in
     record {
       of =
           λ x a.
-          lays_if _ (lt-ltb _ _ c.if-outer-lt-CHAIN.true)
+          lays_if _ (sym (below_rank c.args.outer Chain) ∙ sym c.lt.ensures ∙ c.if-lt.true)
           (lays_called c.open_call-i.ensures
           ((lays_as c.requires.accepted c.expr_with_precedence-d.ensures).of x.1.0 a.1.0)
           (l.of (x.1.1, x.1.2) (a.1.1, a.1.2)) c.set_second.ensures c.close.ensures);
@@ -647,7 +651,7 @@ call-expr_with_precedence-d-requires-2 t c = (
     accepted = c.requires.accepted;
     tree = c.requires.tree.1.0;
     held = c.requires.held.1.0;
-    room = room_first _ (room_else _ (le-ltb _ _ c.if-outer-lt-CHAIN.false) c.requires.room);
+    room = room_first _ (room_else _ (sym (below_rank c.args.outer Chain) ∙ sym c.lt.ensures ∙ c.if-lt.false) c.requires.room);
   },
 )
 
@@ -661,7 +665,7 @@ call-function_args-requires t c =
         tree = (c.requires.tree.1.1, c.requires.tree.1.2);
         held = (c.requires.held.1.1, c.requires.held.1.2);
         room =
-            room_next (room_else _ (le-ltb _ _ c.if-outer-lt-CHAIN.false) c.requires.room) ((lays_as c.requires.accepted
+            room_next (room_else _ (sym (below_rank c.args.outer Chain) ∙ sym c.lt.ensures ∙ c.if-lt.false) c.requires.room) ((lays_as c.requires.accepted
             c.expr_with_precedence-d-2.ensures).of c.requires.tree.1.0 c.requires.held.1.0);
       },
     )
@@ -673,7 +677,7 @@ call-returns t c =
     (let l = rw c.second-p.ensures at (lays_as c.requires.accepted c.function_args.ensures) in
     record {
       of =
-          λ x a. lays_else _ (le-ltb _ _ c.if-outer-lt-CHAIN.false) (lays_then
+          λ x a. lays_else _ (sym (below_rank c.args.outer Chain) ∙ sym c.lt.ensures ∙ c.if-lt.false) (lays_then
           ((lays_as c.requires.accepted c.expr_with_precedence-d-2.ensures).of x.1.0 a.1.0)
           (l.of (x.1.1, x.1.2) (a.1.1, a.1.2)));
     })
@@ -808,51 +812,6 @@ each-returns t c =
           ((lays_as c.requires.accepted c.cond.ensures).of (x.1.1, x.1.2) (rw c.second-p.ensures (a.1.1, a.1.2))));
     })
 
-pub elem-expr-requires : goal.elem-expr-requires
-elem-expr-requires t c =
-    (omega (arith, c.decreases), (elem_of (rw c.in-Expr.is at c.requires)))
-
-pub elem-open_group-g-requires : goal.elem-open_group-g-requires
-elem-open_group-g-requires t c =
-    let h = (elem_of (rw c.in-Grouped.is at c.requires)) in
-    opens_group _ h.room
-
-pub elem-expr-d-requires : goal.elem-expr-d-requires
-elem-expr-d-requires t c =
-    let h = (elem_of (rw c.in-Grouped.is at c.requires)) in
-    (omega (arith, c.decreases), has_at h (room_group _ h.room c.open_group-g.ensures))
-
-pub elem-close-requires : goal.elem-close-requires
-elem-close-requires t c = tt
-
-pub elem-entry-requires : goal.elem-entry-requires
-elem-entry-requires t c =
-    (omega (arith, c.decreases), (elem_of (rw c.in-Entry.is at c.requires)))
-
-pub elem-arm-requires : goal.elem-arm-requires
-elem-arm-requires t c =
-    (omega (arith, c.decreases), (elem_of (rw c.in-Arm.is at c.requires)))
-
-pub elem-returns-in-Expr : goal.elem-returns-in-Expr
-elem-returns-in-Expr t c =
-    rw c.in-Expr.is (laid_as (elem_laid (lays_as c.requires.accepted c.expr.ensures)))
-
-pub elem-returns-in-Grouped : goal.elem-returns-in-Grouped
-elem-returns-in-Grouped t c =
-    rw c.in-Grouped.is (laid_as (elem_laid (record {
-      of =
-          λ e a. lays_group _ c.open_group-g.ensures
-          ((lays_as c.requires.accepted c.expr-d.ensures).of e a) c.close.ensures;
-    })))
-
-pub elem-returns-in-Entry : goal.elem-returns-in-Entry
-elem-returns-in-Entry t c =
-    rw c.in-Entry.is (laid_as (elem_laid (lays_as c.requires.accepted c.entry.ensures)))
-
-pub elem-returns-in-Arm : goal.elem-returns-in-Arm
-elem-returns-in-Arm t c =
-    rw c.in-Arm.is (laid_as (elem_laid (lays_as c.requires.accepted c.arm.ensures)))
-
 pub entry-second-p-requires : goal.entry-second-p-requires
 entry-second-p-requires t c = within (ident_whole c.requires.held.1)
 
@@ -901,17 +860,17 @@ expr-returns t c = c.expr_with_precedence.ensures
 
 pub expr_with_precedence-form-d-requires : goal.expr_with_precedence-form-d-requires
 expr_with_precedence-form-d-requires t c =
-    let h = whole_has c.args.outer c.requires in
+    let h = whole_has (rank c.args.outer) c.requires in
     (omega (arith, c.decreases), has_at h (room_first _ h.room))
 
 pub expr_with_precedence-pop_trailing_comment-requires : goal.expr_with_precedence-pop_trailing_comment-requires
 expr_with_precedence-pop_trailing_comment-requires t c =
-    let h = whole_has c.args.outer c.requires in record { listed = c.requires.accepted.listed; room = room_next h.room ((lays_as c.requires.accepted c.form-d.ensures).of h.tree h.held) }
+    let h = whole_has (rank c.args.outer) c.requires in record { listed = c.requires.accepted.listed; room = room_next h.room ((lays_as c.requires.accepted c.form-d.ensures).of h.tree h.held) }
 
 pub expr_with_precedence-returns : goal.expr_with_precedence-returns
 expr_with_precedence-returns t c =
     laid_as
-    (whole_laid c.args.outer (lays_as c.requires.accepted c.form-d.ensures) (lays c.pop_trailing_comment.ensures))
+    (whole_laid (rank c.args.outer) (lays_as c.requires.accepted c.form-d.ensures) (lays c.pop_trailing_comment.ensures))
 
 pub form-kind-requires : goal.form-kind-requires
 form-kind-requires t c = expr_whole _ _ _ c.requires.tree c.requires.held
@@ -919,7 +878,7 @@ form-kind-requires t c = expr_whole _ _ _ c.requires.tree c.requires.held
 pub form-ret-requires : goal.form-ret-requires
 unfolding rules.expr_with_precedence
 form-ret-requires t c =
-    let h = expr_has _ (expr_is _ _ _ 50 (sym c.kind.ensures ∙ c.in-50.is)) c.args.outer c.requires in
+    let h = expr_has _ (expr_is _ _ _ 50 (sym c.kind.ensures ∙ c.in-50.is)) (rank c.args.outer) c.requires in
     (omega (arith, c.decreases), has_at h h.room)
 
 pub form-overflow_add-at : goal.form-overflow_add-at
@@ -930,7 +889,7 @@ form-overflow_add-at t c =
 pub form-literal-requires : goal.form-literal-requires
 unfolding ExprAt rules.expr_with_precedence
 form-literal-requires t c =
-    let h = expr_has _ (expr_is _ _ _ 51 (sym c.kind.ensures ∙ c.in-51.is)) c.args.outer c.requires in
+    let h = expr_has _ (expr_is _ _ _ 51 (sym c.kind.ensures ∙ c.in-51.is)) (rank c.args.outer) c.requires in
     record { accepted = c.requires.accepted; tree = h.tree.1; held = (h.held.1.0, h.held.1.1); room = h.room }
 
 pub form-overflow_add-at-in-52 : goal.form-overflow_add-at-in-52
@@ -941,23 +900,23 @@ form-overflow_add-at-in-52 t c =
 pub form-block-requires : goal.form-block-requires
 unfolding ExprAt rules.expr_with_precedence
 form-block-requires t c =
-    let h = expr_has _ (expr_is _ _ _ 52 (sym c.kind.ensures ∙ c.in-52.is)) c.args.outer c.requires in
+    let h = expr_has _ (expr_is _ _ _ 52 (sym c.kind.ensures ∙ c.in-52.is)) (rank c.args.outer) c.requires in
     (omega (arith, c.decreases, h.held.1.1.same), record { accepted = c.requires.accepted; tree = h.tree.1; held = h.held.1.0; room = h.room })
 
 pub form-match_expr-requires : goal.form-match_expr-requires
 unfolding rules.expr_with_precedence
 form-match_expr-requires t c =
-    let h = expr_has _ (expr_is _ _ _ 53 (sym c.kind.ensures ∙ c.in-53.is)) c.args.outer c.requires in
+    let h = expr_has _ (expr_is _ _ _ 53 (sym c.kind.ensures ∙ c.in-53.is)) (rank c.args.outer) c.requires in
     (omega (arith, c.decreases), has_at h h.room)
 
 pub form-call-requires : goal.form-call-requires
 form-call-requires t c =
-    let h = expr_has _ (expr_is _ _ _ 54 (sym c.kind.ensures ∙ c.in-54.is)) c.args.outer c.requires in
+    let h = expr_has _ (expr_is _ _ _ 54 (sym c.kind.ensures ∙ c.in-54.is)) (rank c.args.outer) c.requires in
     (omega (arith, c.decreases), h)
 
 pub form-access-requires : goal.form-access-requires
 form-access-requires t c =
-    let h = expr_has _ (expr_is _ _ _ 55 (sym c.kind.ensures ∙ c.in-55.is)) c.args.outer c.requires in
+    let h = expr_has _ (expr_is _ _ _ 55 (sym c.kind.ensures ∙ c.in-55.is)) (rank c.args.outer) c.requires in
     (omega (arith, c.decreases), h)
 
 pub form-overflow_add-at-in-56 : goal.form-overflow_add-at-in-56
@@ -968,8 +927,9 @@ form-overflow_add-at-in-56 t c =
 pub form-path-requires : goal.form-path-requires
 unfolding ExprAt rules.expr_with_precedence
 form-path-requires t c =
-    let h = expr_has _ (expr_is _ _ _ 56 (sym c.kind.ensures ∙ c.in-56.is)) c.args.outer c.requires in
-    record { accepted = c.requires.accepted; tree = h.tree.1; held = h.held.1.0; room = h.room }
+    let h = expr_has _ (expr_is _ _ _ 56 (sym c.kind.ensures ∙ c.in-56.is)) (rank c.args.outer) c.requires in
+    let e : ltb (rank c.args.outer) 8 ≡ c.lt.result = sym (below_rank c.args.outer Chain) ∙ sym c.lt.ensures in
+    record { accepted = c.requires.accepted; tree = h.tree.1; held = h.held.1.0; room = rw e at h.room }
 
 pub form-overflow_add-at-in-57 : goal.form-overflow_add-at-in-57
 form-overflow_add-at-in-57 t c =
@@ -979,7 +939,7 @@ form-overflow_add-at-in-57 t c =
 pub form-record-requires : goal.form-record-requires
 unfolding ExprAt rules.expr_with_precedence
 form-record-requires t c =
-    let h = expr_has _ (expr_is _ _ _ 57 (sym c.kind.ensures ∙ c.in-57.is)) c.args.outer c.requires in (
+    let h = expr_has _ (expr_is _ _ _ 57 (sym c.kind.ensures ∙ c.in-57.is)) (rank c.args.outer) c.requires in (
       omega (arith, c.decreases, h.held.1.2.same),
       record { accepted = c.requires.accepted; tree = (h.tree.1.0, h.tree.1.1); held = (h.held.1.0, h.held.1.1); room = h.room },
     )
@@ -992,25 +952,25 @@ form-overflow_add-at-in-58 t c =
 pub form-path-d-requires : goal.form-path-d-requires
 unfolding ExprAt rules.expr_with_precedence
 form-path-d-requires t c =
-    let h = expr_has _ (expr_is _ _ _ 58 (sym c.kind.ensures ∙ c.in-58.is)) c.args.outer c.requires in
+    let h = expr_has _ (expr_is _ _ _ 58 (sym c.kind.ensures ∙ c.in-58.is)) (rank c.args.outer) c.requires in
     record { accepted = c.requires.accepted; tree = h.tree.1.0; held = h.held.1.0; room = room_first _ h.room }
 
 pub form-word-e-requires : goal.form-word-e-requires
 unfolding ExprAt rules.expr_with_precedence
 form-word-e-requires t c =
-    let h = expr_has _ (expr_is _ _ _ 58 (sym c.kind.ensures ∙ c.in-58.is)) c.args.outer c.requires in
+    let h = expr_has _ (expr_is _ _ _ 58 (sym c.kind.ensures ∙ c.in-58.is)) (rank c.args.outer) c.requires in
     room_first _ (room_next h.room ((lays_as c.requires.accepted c.path-d.ensures).of h.tree.1.0 h.held.1.0))
 
 pub form-second-requires : goal.form-second-requires
 unfolding ExprAt
 form-second-requires t c =
-    let h = expr_has _ (expr_is _ _ _ 58 (sym c.kind.ensures ∙ c.in-58.is)) c.args.outer c.requires in
+    let h = expr_has _ (expr_is _ _ _ 58 (sym c.kind.ensures ∙ c.in-58.is)) (rank c.args.outer) c.requires in
     within (path_whole h.held.1.0)
 
 pub form-record-requires-in-58 : goal.form-record-requires-in-58
 unfolding ExprAt rules.expr_with_precedence
 form-record-requires-in-58 t c =
-    let h = expr_has _ (expr_is _ _ _ 58 (sym c.kind.ensures ∙ c.in-58.is)) c.args.outer c.requires in
+    let h = expr_has _ (expr_is _ _ _ 58 (sym c.kind.ensures ∙ c.in-58.is)) (rank c.args.outer) c.requires in
     rw c.second.ensures (
       omega (arith, c.decreases, h.held.1.3.same),
       record {
@@ -1023,29 +983,11 @@ form-record-requires-in-58 t c =
       },
     )
 
-pub form-overflow_add-at-in-59 : goal.form-overflow_add-at-in-59
-form-overflow_add-at-in-59 t c =
-    let w = expr_whole _ _ _ c.requires.tree c.requires.held in
-    omega (arith, c.requires.accepted.small, w.long, w.fits)
-
-pub form-end-requires : goal.form-end-requires
-form-end-requires t c =
-    expr_whole _ _ _ c.requires.tree c.requires.held
-
-pub form-separated-requires : goal.form-separated-requires
-unfolding ExprAt rules.expr_with_precedence
-form-separated-requires t c =
-    let h = expr_has _ (expr_is _ _ _ 59 (sym c.kind.ensures ∙ c.in-59.is)) c.args.outer c.requires in (
-      omega (arith, c.decreases, h.held.1.2.same),
-      record {
-        accepted = c.requires.accepted;
-        tree = rules.grouped_elems _ h.tree.1;
-        held = list_of h.held.1.0.head (grouped_elems_lem _ _ _ _ h.tree.1 h.held.1.1);
-        span = h.tree.0;
-        ended = c.end.ensures ∙ h.held.0.end;
-        room = h.room;
-      },
-    )
+pub form-list-requires : goal.form-list-requires
+unfolding rules.expr_with_precedence
+form-list-requires t c =
+    let h = expr_has _ (expr_is _ _ _ 59 (sym c.kind.ensures ∙ c.in-59.is)) (rank c.args.outer) c.requires in
+    (omega (arith, c.decreases), has_at h h.room)
 
 pub form-overflow_add-at-in-60 : goal.form-overflow_add-at-in-60
 form-overflow_add-at-in-60 t c =
@@ -1055,7 +997,7 @@ form-overflow_add-at-in-60 t c =
 pub form-after-requires : goal.form-after-requires
 unfolding ExprAt rules.expr_with_precedence
 form-after-requires t c =
-    let h = expr_has _ (expr_is _ _ _ 60 (sym c.kind.ensures ∙ c.in-60.is)) c.args.outer c.requires in
+    let h = expr_has _ (expr_is _ _ _ 60 (sym c.kind.ensures ∙ c.in-60.is)) (rank c.args.outer) c.requires in
     (omega (arith, c.decreases, h.held.1.1.same), record { accepted = c.requires.accepted; tree = h.tree.1; held = h.held.1.0; room = h.room })
 
 pub form-overflow_add-at-in-61 : goal.form-overflow_add-at-in-61
@@ -1066,19 +1008,19 @@ form-overflow_add-at-in-61 t c =
 pub form-path-d-requires-in-61 : goal.form-path-d-requires-in-61
 unfolding ExprAt rules.expr_with_precedence
 form-path-d-requires-in-61 t c =
-    let h = expr_has _ (expr_is _ _ _ 61 (sym c.kind.ensures ∙ c.in-61.is)) c.args.outer c.requires in
+    let h = expr_has _ (expr_is _ _ _ 61 (sym c.kind.ensures ∙ c.in-61.is)) (rank c.args.outer) c.requires in
     record { accepted = c.requires.accepted; tree = h.tree.1.0; held = h.held.1.0; room = room_first _ h.room }
 
 pub form-second-requires-in-61 : goal.form-second-requires-in-61
 unfolding ExprAt
 form-second-requires-in-61 t c =
-    let h = expr_has _ (expr_is _ _ _ 61 (sym c.kind.ensures ∙ c.in-61.is)) c.args.outer c.requires in
+    let h = expr_has _ (expr_is _ _ _ 61 (sym c.kind.ensures ∙ c.in-61.is)) (rank c.args.outer) c.requires in
     within (path_whole h.held.1.0)
 
 pub form-after-requires-in-61 : goal.form-after-requires-in-61
 unfolding ExprAt rules.expr_with_precedence
 form-after-requires-in-61 t c =
-    let h = expr_has _ (expr_is _ _ _ 61 (sym c.kind.ensures ∙ c.in-61.is)) c.args.outer c.requires in
+    let h = expr_has _ (expr_is _ _ _ 61 (sym c.kind.ensures ∙ c.in-61.is)) (rank c.args.outer) c.requires in
     rw c.second-in-61.ensures (
       omega (arith, c.decreases, h.held.1.2.same),
       record {
@@ -1097,24 +1039,24 @@ form-overflow_add-at-in-62 t c =
 pub form-path-d-requires-in-62 : goal.form-path-d-requires-in-62
 unfolding ExprAt rules.expr_with_precedence
 form-path-d-requires-in-62 t c =
-    let h = expr_has _ (expr_is _ _ _ 62 (sym c.kind.ensures ∙ c.in-62.is)) c.args.outer c.requires in
+    let h = expr_has _ (expr_is _ _ _ 62 (sym c.kind.ensures ∙ c.in-62.is)) (rank c.args.outer) c.requires in
     record { accepted = c.requires.accepted; tree = h.tree.1.0; held = h.held.1.0; room = room_first _ h.room }
 
 pub form-third-requires : goal.form-third-requires
 unfolding ExprAt
 form-third-requires t c =
-    let h = expr_has _ (expr_is _ _ _ 62 (sym c.kind.ensures ∙ c.in-62.is)) c.args.outer c.requires in record { second_in_image = within (path_whole h.held.1.0); third_in_image = within (head_whole h.held.1.1.op.head) }
+    let h = expr_has _ (expr_is _ _ _ 62 (sym c.kind.ensures ∙ c.in-62.is)) (rank c.args.outer) c.requires in record { second_in_image = within (path_whole h.held.1.0); third_in_image = within (head_whole h.held.1.1.op.head) }
 
 pub form-assign_word-requires : goal.form-assign_word-requires
 unfolding ExprAt
 form-assign_word-requires t c =
-    let h = expr_has _ (expr_is _ _ _ 62 (sym c.kind.ensures ∙ c.in-62.is)) c.args.outer c.requires in record { in_image = within (path_whole h.held.1.0); at_in_bounds = omega (arith, h.held.1.1.op.ends.same, h.held.1.1.op.head.fits); at_bound = rw h.held.1.1.op.which.byte h.held.1.2 }
+    let h = expr_has _ (expr_is _ _ _ 62 (sym c.kind.ensures ∙ c.in-62.is)) (rank c.args.outer) c.requires in record { in_image = within (path_whole h.held.1.0); at_in_bounds = omega (arith, h.held.1.1.op.ends.same, h.held.1.1.op.head.fits); at_bound = rw h.held.1.1.op.which.byte h.held.1.2 }
 
 pub form-after-requires-in-62 : goal.form-after-requires-in-62
 unfolding ExprAt rules.expr_with_precedence
 form-after-requires-in-62 t c =
-    let h = expr_has _ (expr_is _ _ _ 62 (sym c.kind.ensures ∙ c.in-62.is)) c.args.outer c.requires in
-    let e : get_or table c.assign_word.result "" ≡ rules.assign_symbol h.tree.1.1 =
+    let h = expr_has _ (expr_is _ _ _ 62 (sym c.kind.ensures ∙ c.in-62.is)) (rank c.args.outer) c.requires in
+    let e : spelling c.assign_word.result ≡ rules.assign_symbol h.tree.1.1 =
     c.assign_word.ensures ∙ ap rules.assign_symbol h.held.1.1.op.which.byte in
     rw c.third.ensures (
       omega (arith, c.decreases, h.held.1.4.same),
@@ -1129,7 +1071,7 @@ form-after-requires-in-62 t c =
 pub form-binop-requires : goal.form-binop-requires
 unfolding rules.expr_with_precedence
 form-binop-requires t c =
-    let h = expr_has _ (expr_is _ _ _ 63 (sym c.kind.ensures ∙ c.in-63.is)) c.args.outer c.requires in
+    let h = expr_has _ (expr_is _ _ _ 63 (sym c.kind.ensures ∙ c.in-63.is)) (rank c.args.outer) c.requires in
     (omega (arith, c.decreases), has_at h h.room)
 
 pub form-overflow_add-at-in-64 : goal.form-overflow_add-at-in-64
@@ -1140,13 +1082,13 @@ form-overflow_add-at-in-64 t c =
 pub form-after-requires-in-64 : goal.form-after-requires-in-64
 unfolding ExprAt rules.expr_with_precedence
 form-after-requires-in-64 t c =
-    let h = expr_has _ (expr_is _ _ _ 64 (sym c.kind.ensures ∙ c.in-64.is)) c.args.outer c.requires in
+    let h = expr_has _ (expr_is _ _ _ 64 (sym c.kind.ensures ∙ c.in-64.is)) (rank c.args.outer) c.requires in
     (omega (arith, c.decreases, h.held.1.1.same), record { accepted = c.requires.accepted; tree = h.tree.1; held = h.held.1.0; room = h.room })
 
 pub form-if_else-requires : goal.form-if_else-requires
 unfolding rules.expr_with_precedence
 form-if_else-requires t c =
-    let h = expr_has _ (expr_is _ _ _ 65 (sym c.kind.ensures ∙ c.in-65.is)) c.args.outer c.requires in
+    let h = expr_has _ (expr_is _ _ _ 65 (sym c.kind.ensures ∙ c.in-65.is)) (rank c.args.outer) c.requires in
     (omega (arith, c.decreases), has_at h h.room)
 
 pub form-overflow_add-at-in-66 : goal.form-overflow_add-at-in-66
@@ -1157,7 +1099,7 @@ form-overflow_add-at-in-66 t c =
 pub form-cond-requires : goal.form-cond-requires
 unfolding ExprAt rules.expr_with_precedence
 form-cond-requires t c =
-    let h = expr_has _ (expr_is _ _ _ 66 (sym c.kind.ensures ∙ c.in-66.is)) c.args.outer c.requires in (
+    let h = expr_has _ (expr_is _ _ _ 66 (sym c.kind.ensures ∙ c.in-66.is)) (rank c.args.outer) c.requires in (
       omega (arith, c.decreases, h.held.1.2.same),
       record { accepted = c.requires.accepted; tree = (h.tree.1.0, h.tree.1.1); held = (h.held.1.0, h.held.1.1); room = h.room },
     )
@@ -1165,7 +1107,7 @@ form-cond-requires t c =
 pub form-each-requires : goal.form-each-requires
 unfolding rules.expr_with_precedence
 form-each-requires t c =
-    let h = expr_has _ (expr_is _ _ _ 67 (sym c.kind.ensures ∙ c.in-67.is)) c.args.outer c.requires in
+    let h = expr_has _ (expr_is _ _ _ 67 (sym c.kind.ensures ∙ c.in-67.is)) (rank c.args.outer) c.requires in
     (omega (arith, c.decreases), has_at h h.room)
 
 pub form-overflow_add-at-in-68 : goal.form-overflow_add-at-in-68
@@ -1176,7 +1118,7 @@ form-overflow_add-at-in-68 t c =
 pub form-expr_with_precedence-d-requires : goal.form-expr_with_precedence-d-requires
 unfolding ExprAt rules.expr_with_precedence
 form-expr_with_precedence-d-requires t c =
-    let h = expr_has _ (expr_is _ _ _ 68 (sym c.kind.ensures ∙ c.in-68.is)) c.args.outer c.requires in (
+    let h = expr_has _ (expr_is _ _ _ 68 (sym c.kind.ensures ∙ c.in-68.is)) (rank c.args.outer) c.requires in (
       omega (arith, c.decreases, h.held.1.1.same),
       record { accepted = c.requires.accepted; tree = h.tree.1; held = h.held.1.0; room = room_first _ h.room },
     )
@@ -1184,13 +1126,13 @@ form-expr_with_precedence-d-requires t c =
 pub form-word-requires : goal.form-word-requires
 unfolding ExprAt rules.expr_with_precedence
 form-word-requires t c =
-    let h = expr_has _ (expr_is _ _ _ 68 (sym c.kind.ensures ∙ c.in-68.is)) c.args.outer c.requires in
+    let h = expr_has _ (expr_is _ _ _ 68 (sym c.kind.ensures ∙ c.in-68.is)) (rank c.args.outer) c.requires in
     room_next h.room ((lays_as c.requires.accepted c.expr_with_precedence-d.ensures).of h.tree.1 h.held.1.0)
 
 pub form-fstr-requires : goal.form-fstr-requires
 unfolding rules.expr_with_precedence
 form-fstr-requires t c =
-    let h = expr_has _ (expr_is _ _ _ 69 (sym c.kind.ensures ∙ c.in-69.is)) c.args.outer c.requires in
+    let h = expr_has _ (expr_is _ _ _ 69 (sym c.kind.ensures ∙ c.in-69.is)) (rank c.args.outer) c.requires in
     (omega (arith, c.decreases), has_at h h.room)
 
 pub form-par-requires : goal.form-par-requires
@@ -1224,60 +1166,65 @@ form-par-requires t c =
           c.in_default.in_default-own.rest.0.0.1)
           c.in_default.in_default-own.rest.0.1)
           c.in_default.in_default-own.rest.1),
-    ))) c.args.outer c.requires
+    ))) (rank c.args.outer) c.requires
     in
     (omega (arith, c.decreases), has_at h h.room)
 
 pub form-returns-in-50 : goal.form-returns-in-50
 unfolding ExprAt rules.expr_with_precedence
 form-returns-in-50 t c =
-    laid_as (expr_laid _ (expr_is _ _ _ 50 (sym c.kind.ensures ∙ c.in-50.is)) c.args.outer
+    laid_as (expr_laid _ (expr_is _ _ _ 50 (sym c.kind.ensures ∙ c.in-50.is)) (rank c.args.outer)
     (record { of = λ x a. (lays_as c.requires.accepted c.ret.ensures).of x a }))
 
 pub form-returns-in-51 : goal.form-returns-in-51
 unfolding ExprAt rules.expr_with_precedence
 form-returns-in-51 t c =
-    laid_as (expr_laid _ (expr_is _ _ _ 51 (sym c.kind.ensures ∙ c.in-51.is)) c.args.outer
+    laid_as (expr_laid _ (expr_is _ _ _ 51 (sym c.kind.ensures ∙ c.in-51.is)) (rank c.args.outer)
     (record { of = λ x a. (lays_as c.requires.accepted c.literal.ensures).of x.1 (a.1.0, a.1.1) }))
 
 pub form-returns-in-52 : goal.form-returns-in-52
 unfolding ExprAt rules.expr_with_precedence
 form-returns-in-52 t c =
-    laid_as (expr_laid _ (expr_is _ _ _ 52 (sym c.kind.ensures ∙ c.in-52.is)) c.args.outer
+    laid_as (expr_laid _ (expr_is _ _ _ 52 (sym c.kind.ensures ∙ c.in-52.is)) (rank c.args.outer)
     (record { of = λ x a. (lays_as c.requires.accepted c.block.ensures).of x.1 a.1.0 }))
 
 pub form-returns-in-53 : goal.form-returns-in-53
 unfolding ExprAt rules.expr_with_precedence
 form-returns-in-53 t c =
-    laid_as (expr_laid _ (expr_is _ _ _ 53 (sym c.kind.ensures ∙ c.in-53.is)) c.args.outer
+    laid_as (expr_laid _ (expr_is _ _ _ 53 (sym c.kind.ensures ∙ c.in-53.is)) (rank c.args.outer)
     (record { of = λ x a. (lays_as c.requires.accepted c.match_expr.ensures).of x a }))
 
 pub form-returns-in-54 : goal.form-returns-in-54
 form-returns-in-54 t c =
     laid_as (expr_laid _ (expr_is _ _ _ 54 (sym c.kind.ensures ∙ c.in-54.is))
-    c.args.outer (lays_as c.requires.accepted c.call.ensures))
+    (rank c.args.outer) (lays_as c.requires.accepted c.call.ensures))
 
 pub form-returns-in-55 : goal.form-returns-in-55
 form-returns-in-55 t c =
     laid_as (expr_laid _ (expr_is _ _ _ 55 (sym c.kind.ensures ∙ c.in-55.is))
-    c.args.outer (lays_as c.requires.accepted c.access.ensures))
+    (rank c.args.outer) (lays_as c.requires.accepted c.access.ensures))
 
 pub form-returns-in-56 : goal.form-returns-in-56
 unfolding ExprAt rules.expr_with_precedence
 form-returns-in-56 t c =
-    laid_as (expr_laid _ (expr_is _ _ _ 56 (sym c.kind.ensures ∙ c.in-56.is)) c.args.outer
-    (record { of = λ x a. (lays_as c.requires.accepted c.path.ensures).of x.1 a.1.0 }))
+    laid_as (expr_laid _ (expr_is _ _ _ 56 (sym c.kind.ensures ∙ c.in-56.is)) (rank c.args.outer)
+    (record {
+      of =
+          λ x a.
+          let e : ltb (rank c.args.outer) 8 ≡ c.lt.result = sym (below_rank c.args.outer Chain) ∙ sym c.lt.ensures in
+          rw e ((lays_as c.requires.accepted c.path.ensures).of x.1 a.1.0);
+    }))
 
 pub form-returns-in-57 : goal.form-returns-in-57
 unfolding ExprAt rules.expr_with_precedence
 form-returns-in-57 t c =
-    laid_as (expr_laid _ (expr_is _ _ _ 57 (sym c.kind.ensures ∙ c.in-57.is)) c.args.outer
+    laid_as (expr_laid _ (expr_is _ _ _ 57 (sym c.kind.ensures ∙ c.in-57.is)) (rank c.args.outer)
     (record { of = λ x a. (lays_as c.requires.accepted c.«record».ensures).of (x.1.0, x.1.1) (a.1.0, a.1.1) }))
 
 pub form-returns-in-58 : goal.form-returns-in-58
 unfolding ExprAt rules.expr_with_precedence
 form-returns-in-58 t c =
-    laid_as (expr_laid _ (expr_is _ _ _ 58 (sym c.kind.ensures ∙ c.in-58.is)) c.args.outer (record {
+    laid_as (expr_laid _ (expr_is _ _ _ 58 (sym c.kind.ensures ∙ c.in-58.is)) (rank c.args.outer) (record {
       of =
           λ x a. lays_then ((lays_as c.requires.accepted c.path-d.ensures).of x.1.0 a.1.0) (lays_then (lays c.word-e.ensures)
           ((lays_as c.requires.accepted c.record-in-58.ensures).of (x.1.1, x.1.2)
@@ -1285,29 +1232,22 @@ form-returns-in-58 t c =
     }))
 
 pub form-returns-in-59 : goal.form-returns-in-59
-unfolding ExprAt rules.expr_with_precedence
+unfolding rules.expr_with_precedence
 form-returns-in-59 t c =
-    laid_as
-    (expr_laid _ (expr_is _ _ _ 59 (sym c.kind.ensures ∙ c.in-59.is)) c.args.outer
-    (record {
-      of =
-          λ x a.
-          (lays_list c.requires.accepted c.separated.ensures).of
-          (rules.grouped_elems _ x.1) (list_of a.1.0.head (grouped_elems_lem _ _ _ _ x.1 a.1.1)) x.0
-          (c.end.ensures ∙ a.0.end);
-    }))
+    laid_as (expr_laid _ (expr_is _ _ _ 59 (sym c.kind.ensures ∙ c.in-59.is)) (rank c.args.outer)
+    (record { of = λ x a. (lays_as c.requires.accepted c.list.ensures).of x a }))
 
 pub form-returns-in-60 : goal.form-returns-in-60
 unfolding ExprAt rules.expr_with_precedence
 form-returns-in-60 t c =
-    laid_as (expr_laid _ (expr_is _ _ _ 60 (sym c.kind.ensures ∙ c.in-60.is)) c.args.outer
+    laid_as (expr_laid _ (expr_is _ _ _ 60 (sym c.kind.ensures ∙ c.in-60.is)) (rank c.args.outer)
     (record { of = λ x a. (lays_as c.requires.accepted c.after.ensures).of x.1 a.1.0 }))
 
 pub form-returns-in-61 : goal.form-returns-in-61
 unfolding ExprAt rules.expr_with_precedence
 form-returns-in-61 t c =
     laid_as
-    (expr_laid _ (expr_is _ _ _ 61 (sym c.kind.ensures ∙ c.in-61.is)) c.args.outer
+    (expr_laid _ (expr_is _ _ _ 61 (sym c.kind.ensures ∙ c.in-61.is)) (rank c.args.outer)
     (record {
       of =
           λ x a. lays_then ((lays_as c.requires.accepted c.path-d-in-61.ensures).of x.1.0 a.1.0)
@@ -1318,11 +1258,11 @@ pub form-returns-in-62 : goal.form-returns-in-62
 unfolding ExprAt rules.expr_with_precedence
 form-returns-in-62 t c =
     laid_as
-    (expr_laid _ (expr_is _ _ _ 62 (sym c.kind.ensures ∙ c.in-62.is)) c.args.outer
+    (expr_laid _ (expr_is _ _ _ 62 (sym c.kind.ensures ∙ c.in-62.is)) (rank c.args.outer)
     (record {
       of =
           λ x a.
-          let e : get_or table c.assign_word.result "" ≡ rules.assign_symbol x.1.1 =
+          let e : spelling c.assign_word.result ≡ rules.assign_symbol x.1.1 =
           c.assign_word.ensures ∙ ap rules.assign_symbol a.1.1.op.which.byte in
           rw (← e) (lays_then ((lays_as c.requires.accepted c.path-d-in-62.ensures).of x.1.0 a.1.0)
           ((lays_as c.requires.accepted c.after-in-62.ensures).of x.1.2 (rw c.third.ensures a.1.3)));
@@ -1331,37 +1271,37 @@ form-returns-in-62 t c =
 pub form-returns-in-63 : goal.form-returns-in-63
 unfolding ExprAt rules.expr_with_precedence
 form-returns-in-63 t c =
-    laid_as (expr_laid _ (expr_is _ _ _ 63 (sym c.kind.ensures ∙ c.in-63.is)) c.args.outer
+    laid_as (expr_laid _ (expr_is _ _ _ 63 (sym c.kind.ensures ∙ c.in-63.is)) (rank c.args.outer)
     (record { of = λ x a. (lays_as c.requires.accepted c.binop.ensures).of x a }))
 
 pub form-returns-in-64 : goal.form-returns-in-64
 unfolding ExprAt rules.expr_with_precedence
 form-returns-in-64 t c =
-    laid_as (expr_laid _ (expr_is _ _ _ 64 (sym c.kind.ensures ∙ c.in-64.is)) c.args.outer
+    laid_as (expr_laid _ (expr_is _ _ _ 64 (sym c.kind.ensures ∙ c.in-64.is)) (rank c.args.outer)
     (record { of = λ x a. (lays_as c.requires.accepted c.after-in-64.ensures).of x.1 a.1.0 }))
 
 pub form-returns-in-65 : goal.form-returns-in-65
 unfolding ExprAt rules.expr_with_precedence
 form-returns-in-65 t c =
-    laid_as (expr_laid _ (expr_is _ _ _ 65 (sym c.kind.ensures ∙ c.in-65.is)) c.args.outer
+    laid_as (expr_laid _ (expr_is _ _ _ 65 (sym c.kind.ensures ∙ c.in-65.is)) (rank c.args.outer)
     (record { of = λ x a. (lays_as c.requires.accepted c.if_else.ensures).of x a }))
 
 pub form-returns-in-66 : goal.form-returns-in-66
 unfolding ExprAt rules.expr_with_precedence
 form-returns-in-66 t c =
-    laid_as (expr_laid _ (expr_is _ _ _ 66 (sym c.kind.ensures ∙ c.in-66.is)) c.args.outer
+    laid_as (expr_laid _ (expr_is _ _ _ 66 (sym c.kind.ensures ∙ c.in-66.is)) (rank c.args.outer)
     (record { of = λ x a. (lays_as c.requires.accepted c.cond.ensures).of (x.1.0, x.1.1) (a.1.0, a.1.1) }))
 
 pub form-returns-in-67 : goal.form-returns-in-67
 unfolding ExprAt rules.expr_with_precedence
 form-returns-in-67 t c =
-    laid_as (expr_laid _ (expr_is _ _ _ 67 (sym c.kind.ensures ∙ c.in-67.is)) c.args.outer
+    laid_as (expr_laid _ (expr_is _ _ _ 67 (sym c.kind.ensures ∙ c.in-67.is)) (rank c.args.outer)
     (record { of = λ x a. (lays_as c.requires.accepted c.each.ensures).of x a }))
 
 pub form-returns-in-68 : goal.form-returns-in-68
 unfolding ExprAt rules.expr_with_precedence
 form-returns-in-68 t c =
-    laid_as (expr_laid _ (expr_is _ _ _ 68 (sym c.kind.ensures ∙ c.in-68.is)) c.args.outer
+    laid_as (expr_laid _ (expr_is _ _ _ 68 (sym c.kind.ensures ∙ c.in-68.is)) (rank c.args.outer)
     (record {
       of =
           λ x a. lays_then ((lays_as c.requires.accepted c.expr_with_precedence-d.ensures).of x.1 a.1.0)
@@ -1371,7 +1311,7 @@ form-returns-in-68 t c =
 pub form-returns-in-69 : goal.form-returns-in-69
 unfolding ExprAt rules.expr_with_precedence
 form-returns-in-69 t c =
-    laid_as (expr_laid _ (expr_is _ _ _ 69 (sym c.kind.ensures ∙ c.in-69.is)) c.args.outer
+    laid_as (expr_laid _ (expr_is _ _ _ 69 (sym c.kind.ensures ∙ c.in-69.is)) (rank c.args.outer)
     (record { of = λ x a. (lays_as c.requires.accepted c.fstr.ensures).of x a }))
 
 pub form-returns-in_default : goal.form-returns-in_default
@@ -1404,7 +1344,7 @@ form-returns-in_default t c =
           c.in_default.in_default-own.rest.0.0.1)
           c.in_default.in_default-own.rest.0.1)
           c.in_default.in_default-own.rest.1),
-    ))) c.args.outer (record { of = λ x a. (lays_as c.requires.accepted c.par.ensures).of x a }))
+    ))) (rank c.args.outer) (record { of = λ x a. (lays_as c.requires.accepted c.par.ensures).of x a }))
 
 pub fstr-start-requires : goal.fstr-start-requires
 unfolding ExprAt
@@ -1489,23 +1429,22 @@ pub function_args-end-requires : goal.function_args-end-requires
 function_args-end-requires t c = head_whole c.requires.held.0
 
 pub function_args-separated-requires : goal.function_args-separated-requires
-function_args-separated-requires t c = (
-  omega (arith, c.decreases),
-  record {
-    accepted = c.requires.accepted;
-    tree = rules.expr_elems _ c.requires.tree.1;
-    held = list_of c.requires.held.0 (expr_elems_lem _ _ _ _ c.requires.tree.1 c.requires.held.1);
-    span = c.requires.tree.0;
-    ended = c.end.ensures ∙ c.requires.held.0.end;
-    room = c.requires.room;
-  },
-)
+function_args-separated-requires t c =
+    has_each ExprAt rules.expr_rule _ (λ p low high x d h. (omega (arith, c.decreases, low, high), h)) (λ p x y d k r. r.1)
+    ((record {
+      accepted = c.requires.accepted;
+      tree = rules.expr_elems _ c.requires.tree.1;
+      held = list_of c.requires.held.0 (expr_elems_lem _ _ _ _ c.requires.tree.1 c.requires.held.1);
+      span = c.requires.tree.0;
+      ended = c.end.ensures ∙ c.requires.held.0.end;
+      room = c.requires.room;
+    }))
 
 pub function_args-returns : goal.function_args-returns
 function_args-returns t c =
     laid_as (record {
       of =
-          λ x a. (lays_list c.requires.accepted c.separated.ensures).of (rules.expr_elems _ x.1)
+          λ x a. (lays_each ExprAt rules.expr_rule _ (λ p low high x d h. (omega (arith, c.decreases, low, high), h)) (λ p x y d k r. r.1) c.requires.accepted c.separated.ensures).of (rules.expr_elems _ x.1)
           (list_of a.0 (expr_elems_lem _ _ _ _ x.1 a.1)) x.0 (c.end.ensures ∙ a.0.end);
     })
 
@@ -1672,26 +1611,24 @@ match_expr-end-requires t c =
 pub match_expr-separated-requires : goal.match_expr-separated-requires
 unfolding ExprAt rules.expr_with_precedence
 match_expr-separated-requires t c =
-    rw (c.end.ensures, c.second-p.ensures) (
-      omega (arith, c.decreases, c.requires.held.1.3.same),
-      record {
-        accepted = c.requires.accepted;
-        tree = rules.arm_elems _ c.requires.tree.1.2;
-        held = list_of c.requires.held.1.1 (arm_elems_lem _ _ _ _ c.requires.tree.1.2 c.requires.held.1.2);
-        span = c.requires.tree.1.1;
-        ended = c.requires.held.1.1.end;
-        room =
-            room_next (room_next (room_next c.requires.room (lays c.word-d.ensures))
-            ((lays_as c.requires.accepted c.expr-e.ensures).of c.requires.tree.1.0 c.requires.held.1.0))
-            (lays c.word-f.ensures);
-      },
-    )
+    has_each ArmAt arm_rule _ (λ p low high x d h. (omega (arith, c.decreases, low, high, c.second-p.ensures, ap (λ (n : ℕ). stop_at c.args.b.now n) c.second-p.ensures, c.requires.held.1.3.same), h)) (λ p x y d k r. r.1)
+    (rw (c.end.ensures, c.second-p.ensures) (record {
+      accepted = c.requires.accepted;
+      tree = rules.arm_elems _ c.requires.tree.1.2;
+      held = list_of c.requires.held.1.1 (arm_elems_lem _ _ _ _ c.requires.tree.1.2 c.requires.held.1.2);
+      span = c.requires.tree.1.1;
+      ended = c.requires.held.1.1.end;
+      room =
+          room_next (room_next (room_next c.requires.room (lays c.word-d.ensures))
+          ((lays_as c.requires.accepted c.expr-e.ensures).of c.requires.tree.1.0 c.requires.held.1.0))
+          (lays c.word-f.ensures);
+    }))
 
 pub match_expr-returns : goal.match_expr-returns
 unfolding ExprAt rules.expr_with_precedence
 match_expr-returns t c =
     laid_as
-    (let l = rw (c.end.ensures, c.second-p.ensures) at (lays_list c.requires.accepted c.separated.ensures) in
+    (let l = rw (c.end.ensures, c.second-p.ensures) at (lays_each ArmAt arm_rule _ (λ p low high x d h. (omega (arith, c.decreases, low, high, c.second-p.ensures, ap (λ (n : ℕ). stop_at c.args.b.now n) c.second-p.ensures, c.requires.held.1.3.same), h)) (λ p x y d k r. r.1) c.requires.accepted c.separated.ensures) in
     record {
       of =
           λ x a.
@@ -1847,43 +1784,36 @@ pub record-end-requires : goal.record-end-requires
 record-end-requires t c = head_whole c.requires.held.0
 
 pub record-separated-requires : goal.record-separated-requires
-record-separated-requires t c = (
-  omega (arith, c.decreases),
-  record {
-    accepted = c.requires.accepted;
-    tree = rules.entry_elems _ c.requires.tree.1;
-    held = list_of c.requires.held.0 (entry_elems_lem _ _ _ _ c.requires.tree.1 c.requires.held.1);
-    span = c.requires.tree.0;
-    ended = c.end.ensures ∙ c.requires.held.0.end;
-    room = c.requires.room;
-  },
-)
+record-separated-requires t c =
+    has_each EntryAt entry_rule _ (λ p low high x d h. (omega (arith, c.decreases, low, high), h)) (λ p x y d k r. r.1)
+    ((record {
+      accepted = c.requires.accepted;
+      tree = rules.entry_elems _ c.requires.tree.1;
+      held = list_of c.requires.held.0 (entry_elems_lem _ _ _ _ c.requires.tree.1 c.requires.held.1);
+      span = c.requires.tree.0;
+      ended = c.end.ensures ∙ c.requires.held.0.end;
+      room = c.requires.room;
+    }))
 
 pub record-returns : goal.record-returns
 record-returns t c =
     laid_as (record {
       of =
-          λ x a. (lays_list c.requires.accepted c.separated.ensures).of (rules.entry_elems _ x.1)
+          λ x a. (lays_each EntryAt entry_rule _ (λ p low high x d h. (omega (arith, c.decreases, low, high), h)) (λ p x y d k r. r.1) c.requires.accepted c.separated.ensures).of (rules.entry_elems _ x.1)
           (list_of a.0 (entry_elems_lem _ _ _ _ x.1 a.1)) x.0 (c.end.ensures ∙ a.0.end);
     })
 
-pub ret-payload-k-requires : goal.ret-payload-k-requires
+pub ret-return_word-requires : goal.ret-return_word-requires
 unfolding ExprAt
-ret-payload-k-requires t c =
+ret-return_word-requires t c =
     let w = maybe_expr_lem _ _ _ c.requires.tree.1.1 c.requires.held.1.2 in
-    omega (arith, w.fits)
-
-pub ret-overflow_add-k : goal.ret-overflow_add-k
-unfolding ExprAt
-ret-overflow_add-k t c =
-    omega (arith, c.payload-k.ensures, c.requires.held.1.0.byte, c.requires.held.1.1)
+    record { at_in_bounds = omega (arith, w.fits); at_bound = omega (arith, c.requires.held.1.0.byte, c.requires.held.1.1) }
 
 pub ret-word-d-requires : goal.ret-word-d-requires
 unfolding ExprAt rules.expr_with_precedence
 ret-word-d-requires t c =
-    let e : get_or table (9 + c.payload-k.result) "" ≡ rules.return_word c.requires.tree.1.0 =
-    return_word_lem c.payload-k.result (omega (arith, c.payload-k.ensures, c.requires.held.1.0.byte, c.requires.held.1.1))
-    ∙ ap rules.return_word (c.payload-k.ensures ∙ c.requires.held.1.0.byte) in
+    let e : spelling c.return_word.result ≡ rules.return_word c.requires.tree.1.0 =
+    c.return_word.ensures ∙ ap rules.return_word c.requires.held.1.0.byte in
     room_first _ (rw (← e) at c.requires.room)
 
 pub ret-overflow_add-at : goal.ret-overflow_add-at
@@ -1895,9 +1825,8 @@ ret-overflow_add-at t c =
 pub ret-maybe-requires : goal.ret-maybe-requires
 unfolding ExprAt rules.expr_with_precedence
 ret-maybe-requires t c =
-    let e : get_or table (9 + c.payload-k.result) "" ≡ rules.return_word c.requires.tree.1.0 =
-    return_word_lem c.payload-k.result (omega (arith, c.payload-k.ensures, c.requires.held.1.0.byte, c.requires.held.1.1))
-    ∙ ap rules.return_word (c.payload-k.ensures ∙ c.requires.held.1.0.byte) in (
+    let e : spelling c.return_word.result ≡ rules.return_word c.requires.tree.1.0 =
+    c.return_word.ensures ∙ ap rules.return_word c.requires.held.1.0.byte in (
       omega (arith, c.decreases, c.requires.held.1.3.same),
       record {
         accepted = c.requires.accepted;
@@ -1914,94 +1843,10 @@ ret-returns t c =
     (record {
       of =
           λ x a.
-          let e : get_or table (9 + c.payload-k.result) "" ≡ rules.return_word x.1.0 =
-          return_word_lem c.payload-k.result (omega (arith, c.payload-k.ensures, a.1.0.byte, a.1.1))
-          ∙ ap rules.return_word (c.payload-k.ensures ∙ a.1.0.byte) in
+          let e : spelling c.return_word.result ≡ rules.return_word x.1.0 =
+          c.return_word.ensures ∙ ap rules.return_word a.1.0.byte in
           rw (← e) (lays_then (lays c.word-d.ensures) ((lays_as c.requires.accepted c.maybe.ensures).of x.1.1 a.1.2));
     })
-
-pub separated-past-last-requires : goal.separated-past-last-requires
-separated-past-last-requires t c = record { fits = c.requires.held.fits }
-
-pub separated-overflow_add-at : goal.separated-overflow_add-at
-separated-overflow_add-at t c =
-    omega (arith, c.requires.accepted.small, c.requires.held.long, c.requires.held.fits)
-
-pub separated-empty_list-requires : goal.separated-empty_list-requires
-separated-empty_list-requires t c =
-    empty_has (c.if-at-last.true ∙ c.past-last.ensures) c.requires
-
-pub separated-returns-then-at-last : goal.separated-returns-then-at-last
-separated-returns-then-at-last t c =
-    laid_list (empty_laid (c.if-at-last.true ∙ c.past-last.ensures) (lays_empty c.requires.accepted c.empty_list.ensures))
-
-pub separated-begin_list-i-requires : goal.separated-begin_list-i-requires
-separated-begin_list-i-requires t c =
-    begins (λ e. c.if-at-last.false (e ∙ sym c.past-last.ensures)) c.requires
-
-pub separated-overflow_add-p : goal.separated-overflow_add-p
-separated-overflow_add-p t c =
-    omega (arith, c.requires.accepted.small, c.requires.held.long, c.requires.held.fits)
-
-pub separated-loop-p-init : goal.separated-loop-p-init
-separated-loop-p-init t c = (
-  refl,
-  omega arith,
-  rw c.past-last.ensures
-      (elems_all (λ e. c.if-at-last.false (e ∙ sym c.past-last.ensures)) c.requires c.begin_list-i.ensures),
-  λ x e l. l,
-)
-
-pub separated-start-requires : goal.separated-start-requires
-separated-start-requires t c =
-    let m = elems_first _ c.args.form.commas c.loop-p.first c.loop-p-test.true c.loop-p.invariant.2 in
-    m.whole
-
-pub separated-before_elem-d-requires : goal.separated-before_elem-d-requires
-separated-before_elem-d-requires t c =
-    let m = elems_first _ c.args.form.commas c.loop-p.first c.loop-p-test.true c.loop-p.invariant.2 in record { readable = c.requires.accepted; room = before_room _ _ _ m c.start.ensures }
-
-pub separated-elem-d-requires : goal.separated-elem-d-requires
-separated-elem-d-requires t c =
-    let m = elems_first _ c.args.form.commas c.loop-p.first c.loop-p-test.true c.loop-p.invariant.2 in (
-      omega (arith, c.decreases, m.least, c.loop-p.invariant.1, c.past-last.ensures),
-      elem_has _ _ _ m c.start.ensures (lays c.before_elem-d.ensures),
-    )
-
-pub separated-past-p-requires : goal.separated-past-p-requires
-separated-past-p-requires t c =
-    let m = elems_first _ c.args.form.commas c.loop-p.first c.loop-p-test.true c.loop-p.invariant.2 in
-    record { fits = m.whole.fits }
-
-pub separated-loop-p-smaller : goal.separated-loop-p-smaller
-separated-loop-p-smaller t c =
-    let m = elems_first _ c.args.form.commas c.loop-p.first c.loop-p-test.true c.loop-p.invariant.2 in
-    omega (arith, m.least, m.whole.long, c.past-p.ensures, c.loop-p-test.true)
-
-pub separated-loop-p-preserved : goal.separated-loop-p-preserved
-separated-loop-p-preserved t c =
-    let m = elems_first _ c.args.form.commas c.loop-p.first c.loop-p-test.true c.loop-p.invariant.2 in (
-      c.elem-d.auto.store ∙ c.before_elem-d.auto.store ∙ c.loop-p.invariant.0,
-      omega (arith, c.past-p.ensures, c.loop-p.invariant.1),
-      rw c.past-p.ensures (elems_rest _ _ _ m c.start.ensures (lays c.before_elem-d.ensures)
-          (lays_as c.requires.accepted c.elem-d.ensures)),
-      λ x e l. c.loop-p.invariant.3 x e (elems_more _ c.args.form.commas c.loop-p.first c.loop-p-test.true
-          c.start.ensures (lays c.before_elem-d.ensures)
-          (lays_as c.requires.accepted c.elem-d.ensures) (rw c.past-p.ensures at l)),
-    )
-
-pub separated-finish_list-requires : goal.separated-finish_list-requires
-separated-finish_list-requires t c =
-    elems_done (λ e. c.if-at-last.false (e ∙ sym c.past-last.ensures)) c.requires c.begin_list-i.ensures
-    (rw c.past-last.ensures
-    at (c.loop-p.invariant.3 _ _ (elems_none _ c.args.form.commas c.loop-p.first c.loop-p-test.false)))
-
-pub separated-returns : goal.separated-returns
-separated-returns t c =
-    laid_list (list_laid (λ e. c.if-at-last.false (e ∙ sym c.past-last.ensures)) c.requires.accepted
-    c.begin_list-i.ensures (rw c.past-last.ensures
-    at (c.loop-p.invariant.3 _ _ (elems_none _ c.args.form.commas c.loop-p.first c.loop-p-test.false)))
-    c.finish_list.ensures)
 
 pub stmt-kind-requires : goal.stmt-kind-requires
 stmt-kind-requires t c = stmt_whole _ _ _ c.requires.tree c.requires.held
@@ -2179,9 +2024,6 @@ tail-loop-n-init t c =
           (record { low = x; above = a; done = rules.leftmost h; begun = refl; laid = lays_skip; same = refl; room = room }),
     )
 
-pub tail-overflow_sub-n-in-loop-n : goal.tail-overflow_sub-n-in-loop-n
-tail-overflow_sub-n-in-loop-n t c = omega (arith, c.loop-n-test.true)
-
 pub tail-offset_bounds-ops-n : goal.tail-offset_bounds-ops-n
 tail-offset_bounds-ops-n t c = omega (arith, c.loop-n.invariant.1)
 
@@ -2244,10 +2086,6 @@ tail-expr-d-requires t c =
       right_has c.requires.accepted n (rw c.second.ensures at (lays_as c.requires.accepted c.operator-d.ensures)),
     )
 
-pub tail-loop-n-smaller : goal.tail-loop-n-smaller
-tail-loop-n-smaller t c =
-    omega (arith, c.loop-n-test.true)
-
 pub tail-loop-n-preserved : goal.tail-loop-n-preserved
 tail-loop-n-preserved t c =
     let k : get_or c.args.ops.now (c.loop-n.n - 1) 0 ≡ c.args.at + 13 * (c.loop-n.n - 1) =
@@ -2283,4 +2121,51 @@ pub tail-returns : goal.tail-returns
 tail-returns t c =
     laid_tail (record {
       of = λ q e held x a h. record { does = λ room. (going_end (omega (arith, c.loop-n-test.false)) (c.loop-n.invariant.4 q e held x a h room)).does room };
+    })
+
+pub list-end-requires : goal.list-end-requires
+unfolding ExprAt
+list-end-requires t c = head_whole c.requires.held.0
+
+pub list-overflow_add-at : goal.list-overflow_add-at
+unfolding ExprAt
+list-overflow_add-at t c = omega (arith, c.requires.accepted.small, c.requires.held.0.long, c.requires.held.0.fits)
+
+pub list-separated-requires : goal.list-separated-requires
+unfolding ExprAt rules.expr_with_precedence
+list-separated-requires t c =
+    has_each ExprAt grouped_rule _ (λ p low high x d h. (omega (arith, c.decreases, low, high, c.requires.held.1.2.same), h)) (λ p x y d k r. r.1)
+    (record {
+      accepted = c.requires.accepted;
+      tree = rules.grouped_elems _ c.requires.tree.1;
+      held = list_of c.requires.held.1.0.head (grouped_elems_lem _ _ _ _ c.requires.tree.1 c.requires.held.1.1);
+      span = c.requires.tree.0;
+      ended = c.end.ensures ∙ c.requires.held.0.end;
+      room = c.requires.room;
+    })
+
+pub list-returns : goal.list-returns
+unfolding ExprAt rules.expr_with_precedence
+list-returns t c =
+    laid_as (record {
+      of =
+          λ x a.
+          (lays_each ExprAt grouped_rule _ (λ p low high x d h. (omega (arith, c.decreases, low, high, a.1.2.same), h)) (λ p x y d k r. r.1) c.requires.accepted c.separated.ensures).of
+          (rules.grouped_elems _ x.1) (list_of a.1.0.head (grouped_elems_lem _ _ _ _ x.1 a.1.1)) x.0
+          (c.end.ensures ∙ a.0.end);
+    })
+
+pub grouped-open_group-g-requires : goal.grouped-open_group-g-requires
+grouped-open_group-g-requires t c = opens_group _ c.requires.room
+
+pub grouped-expr-d-requires : goal.grouped-expr-d-requires
+grouped-expr-d-requires t c =
+    (omega (arith, c.decreases), has_at c.requires (room_group _ c.requires.room c.open_group-g.ensures))
+
+pub grouped-returns : goal.grouped-returns
+grouped-returns t c =
+    laid_as (record {
+      of =
+          λ e a. lays_group _ c.open_group-g.ensures
+          ((lays_as c.requires.accepted c.expr-d.ensures).of e a) c.close.ensures;
     })

@@ -12,7 +12,6 @@ use lib.ListN.{get_or, length}
 use mathlib.Core.List.{List}
 use Rattle.acts.specs.declared.Cursor.{Cursor}
 use Rattle.layout.specs.Promises.{HasAll}
-use Rattle.layout.specs.Elems.{ExprElem, ElemsAt, elements_rule}
 use Rattle.acts.specs.Act.{Act}
 use Rattle.acts.specs.Laid.{Room}
 use Rattle.layout.specs.Chains.{Above, grown}
@@ -47,9 +46,6 @@ decreases-cond l = 16 * (be32 l.b.now l.at + be32 l.b.now (stop_at l.b.now l.at)
 
 abbrev pub decreases-each : goal.decreases-each
 decreases-each l = 16 * be32 l.b.now l.at + 7
-
-abbrev pub decreases-elem : goal.decreases-elem
-decreases-elem l = 16 * be32 l.b.now l.at + 12
 
 abbrev pub decreases-entry : goal.decreases-entry
 decreases-entry l = 16 * be32 l.b.now l.at + 7
@@ -93,9 +89,6 @@ decreases-record l = 16 * be32 l.b.now l.at + 5
 abbrev pub decreases-ret : goal.decreases-ret
 decreases-ret l = 16 * be32 l.b.now l.at + 7
 
-abbrev pub decreases-separated : goal.decreases-separated
-decreases-separated l = 16 * be32 l.b.now l.at + 4
-
 abbrev pub decreases-stmt : goal.decreases-stmt
 decreases-stmt l = 16 * be32 l.b.now l.at + 8
 
@@ -113,16 +106,6 @@ invariant-parts-loop-p l = (length l.store ≡ length l.initial.store)
 
 abbrev pub decreases-parts-loop-p : goal.decreases-parts-loop-p
 decreases-parts-loop-p l = l.to - l.p
-
-abbrev pub invariant-separated-loop-p : goal.invariant-separated-loop-p
-invariant-separated-loop-p l = (length l.store ≡ length l.initial.store)
-    × (l.at + 13 ≤ l.p)
-    × HasAll (ElemsAt (ExprElem l.k)) (elements_rule l.form.commas l.first) l.s l.b l.p l.last l.d
-    × ((x : List ℕ) (e : Cursor) → LaysAll (ElemsAt (ExprElem l.k)) (elements_rule l.form.commas l.first) l.s l.b l.p l.last l.store l.d x e
-    → LaysAll (ElemsAt (ExprElem l.k)) (elements_rule l.form.commas l.initial.first) l.s l.b l.initial.p l.last l.initial.store l.initial.d x e)
-
-abbrev pub decreases-separated-loop-p : goal.decreases-separated-loop-p
-decreases-separated-loop-p l = l.last - l.p
 
 abbrev pub invariant-stmts-loop-p : goal.invariant-stmts-loop-p
 invariant-stmts-loop-p l = (length l.store ≡ length l.initial.store)
@@ -142,5 +125,20 @@ invariant-tail-loop-n l = (length l.store ≡ length l.initial.store)
     × ((q : ℕ) (e : Expr) → ExprAt l.s l.b e l.at → (x : Expr) (a : Above q l.s l.b e l.at l.left x) (h : Act)
     → Room (grown a (rules.leftmost h)).ops l.initial.d → Going q l.s l.b e l.at (l.at + 13 * l.n) l.first (grown a (rules.leftmost h)) l.initial.store l.initial.d l.store l.d)
 
-abbrev pub decreases-tail-loop-n : goal.decreases-tail-loop-n
-decreases-tail-loop-n l = l.n
+abbrev pub decreases-list : goal.decreases-list
+decreases-list l = 16 * be32 l.b.now l.at + 7
+
+abbrev pub decreases-grouped : goal.decreases-grouped
+decreases-grouped l = 16 * be32 l.b.now l.at + 12
+
+abbrev pub decreases-list-element : goal.decreases-list-element
+decreases-list-element l = 16 * be32 l.b.now l.p + 13
+
+abbrev pub decreases-match_expr-one_arm : goal.decreases-match_expr-one_arm
+decreases-match_expr-one_arm l = 16 * be32 l.b.now l.q + 12
+
+abbrev pub decreases-function_args-argument : goal.decreases-function_args-argument
+decreases-function_args-argument l = 16 * be32 l.b.now l.p + 12
+
+abbrev pub decreases-record-named : goal.decreases-record-named
+decreases-record-named l = 16 * be32 l.b.now l.p + 12

@@ -1,77 +1,57 @@
-use Rattle.layout_call.proofs.Ends.{fits_told, fits_by, fit_cells, ahead, within, small, needed_is, ends_unfit, ends_short}
-use mathlib.Core.Path.{sym, ◌∙◌}
-use native.Mathlib.Omega.{arith}
+use Rattle.std.proofs.Common.{sym, ap, ◌∙◌, not, arith}
+use Rattle.layout_call.proofs.Ends.{fits_told, fits_unless, fit_cells, ahead, within, small, needed_is, ends_unfit, ends_short}
 use Rattle.layout_call.proofs.layout_accepted.Goals as goal
 
 pub returns-then-not-state_fits : goal.returns-then-not-state_fits
 returns-then-not-state_fits c =
-    ends_unfit c.args.source.now c.args.image.now c.args.state c.args.args c.args.store.now
-    c.requires c.state_fits.result (fits_told c.args.source.now c.args.image.now c.args.state
-    c.args.args c.args.store.now c.requires c.state_fits.result
-    c.count_declarations-declarations.result c.count_declarations-declarations.ensures c.state_fits.ensures)
-    c.if-not-state_fits.true-raw
+    let file = c.args.file in
+    let told =
+    fits_told file.source.now file.image.now c.args.state c.args.args c.args.store.now file.accepts _ _
+    c.count_declarations-declarations.ensures c.state_fits.ensures
+    in
+    rw c.at.ensures
+    (ends_unfit file.source.now file.image.now c.args.state c.args.args c.args.store.now file.accepts _ told (ap not c.if-not-state_fits.true))
 
-pub cursor_of-c-requires : goal.cursor_of-c-requires
-cursor_of-c-requires c =
-    fit_cells c.args.source.now c.args.image.now c.args.state c.args.args c.args.store.now
-    c.requires (fits_by c.args.source.now c.args.image.now c.args.state c.args.args
-    c.args.store.now c.requires c.state_fits.result (fits_told c.args.source.now c.args.image.now
-    c.args.state c.args.args c.args.store.now c.requires c.state_fits.result
-    c.count_declarations-declarations.result c.count_declarations-declarations.ensures c.state_fits.ensures)
-    c.if-not-state_fits.false-raw)
+pub cursor_of-requires : goal.cursor_of-requires
+cursor_of-requires c =
+    let file = c.args.file in
+    fit_cells file.source.now file.image.now c.args.state c.args.args c.args.store.now file.accepts
+    (fits_unless file.source.now file.image.now c.args.state c.args.args c.args.store.now file.accepts _ _
+    c.count_declarations-declarations.ensures c.state_fits.ensures c.if-not-state_fits.false)
 
 pub rows_wanted-needed-requires : goal.rows_wanted-needed-requires
 rows_wanted-needed-requires c =
-    let f =
-    (fits_by c.args.source.now c.args.image.now c.args.state c.args.args c.args.store.now c.requires
-    c.state_fits.result (fits_told c.args.source.now c.args.image.now c.args.state c.args.args
-    c.args.store.now c.requires c.state_fits.result c.count_declarations-declarations.result
-    c.count_declarations-declarations.ensures c.state_fits.ensures)
-    c.if-not-state_fits.false-raw)
+    let file = c.args.file in
+    let fits =
+    fits_unless file.source.now file.image.now c.args.state c.args.args c.args.store.now file.accepts _ _
+    c.count_declarations-declarations.ensures c.state_fits.ensures c.if-not-state_fits.false
     in (
-      c.requires,
+      ahead file.source.now file.image.now c.args.state c.args.args c.args.store.now file.accepts fits,
       (
-        ahead c.args.source.now c.args.image.now c.args.state c.args.args c.args.store.now c.requires f,
-        (
-          within c.args.source.now c.args.image.now c.args.state c.args.args c.args.store.now c.requires f,
-          rw c.cursor_of-c.ensures
-              (small c.args.source.now c.args.image.now c.args.state c.args.args c.args.store.now c.requires f),
-        ),
+        within file.source.now file.image.now c.args.state c.args.args c.args.store.now file.accepts fits,
+        rw c.cursor_of.ensures (small file.source.now file.image.now c.args.state c.args.args c.args.store.now file.accepts fits),
       ),
     )
 
 pub returns-then-rows-needed : goal.returns-then-rows-needed
 returns-then-rows-needed c =
-    let f =
-    (fits_by c.args.source.now c.args.image.now c.args.state c.args.args c.args.store.now c.requires
-    c.state_fits.result (fits_told c.args.source.now c.args.image.now c.args.state c.args.args
-    c.args.store.now c.requires c.state_fits.result c.count_declarations-declarations.result
-    c.count_declarations-declarations.ensures c.state_fits.ensures)
-    c.if-not-state_fits.false-raw)
+    let file = c.args.file in
+    let fits =
+    fits_unless file.source.now file.image.now c.args.state c.args.args c.args.store.now file.accepts _ _
+    c.count_declarations-declarations.ensures c.state_fits.ensures c.if-not-state_fits.false
     in
-    ends_short c.args.source.now c.args.image.now c.args.state c.args.args c.args.store.now c.requires f
-    c.rows_wanted-needed.result ((rw c.cursor_of-c.ensures at c.rows_wanted-needed.ensures).short c.if-rows-needed.true
-    ∙ sym (needed_is c.args.source.now c.args.image.now c.args.state c.args.args c.args.store.now c.requires f))
-    c.if-rows-needed.true
+    let due = needed_is file.source.now file.image.now c.args.state c.args.args c.args.store.now file.accepts fits in
+    rw c.at-then-rows-needed.ensures
+    (ends_short file.source.now file.image.now c.args.state c.args.args c.args.store.now file.accepts fits
+    c.rows_wanted-needed.result ((rw c.cursor_of.ensures at c.rows_wanted-needed.ensures).short c.if-rows-needed.true ∙ sym due)
+    c.if-rows-needed.true)
 
 pub laid-requires : goal.laid-requires
 laid-requires c =
-    let f =
-    (fits_by c.args.source.now c.args.image.now c.args.state c.args.args c.args.store.now c.requires
-    c.state_fits.result (fits_told c.args.source.now c.args.image.now c.args.state c.args.args
-    c.args.store.now c.requires c.state_fits.result c.count_declarations-declarations.result
-    c.count_declarations-declarations.ensures c.state_fits.ensures)
-    c.if-not-state_fits.false-raw)
-    in (
-      c.requires,
-      (
-        f,
-        record {
-          fits = omega (
-            arith,
-            needed_is c.args.source.now c.args.image.now c.args.state c.args.args c.args.store.now c.requires f,
-            (rw c.cursor_of-c.ensures at c.rows_wanted-needed.ensures).enough c.if-rows-needed.false,
-          );
-        },
-      ),
-    )
+    let file = c.args.file in
+    let fits =
+    fits_unless file.source.now file.image.now c.args.state c.args.args c.args.store.now file.accepts _ _
+    c.count_declarations-declarations.ensures c.state_fits.ensures c.if-not-state_fits.false
+    in
+    let due = needed_is file.source.now file.image.now c.args.state c.args.args c.args.store.now file.accepts fits in
+    (fits, record { fits = omega (arith, due, (rw c.cursor_of.ensures at c.rows_wanted-needed.ensures).enough c.if-rows-needed.false) })

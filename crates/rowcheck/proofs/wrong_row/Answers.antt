@@ -1,34 +1,57 @@
 use native.Mathlib.Omega.{arith}
-use mathlib.Core.Path.{refl, sym, ap, ◌∙◌}
-use Rattle.renderer_rules.proofs.Checked.{fits_row}
-use Rattle.rowcheck.proofs.Pending.{refused, check_start, check_wrong, check_right, check_out_at, check_in, check_past, check_as}
-use Rattle.rowcheck.proofs.wrong_row.Goals.{then-depth-gt0, else-depth-gt0+then-row-end, then-row-after, else-row-after}
+use mathlib.Core.Path.{sym, ap, ◌∙◌}
+use lib.ListN.{length}
+use Rattle.rowcheck.proofs.Pending.{check_start, check_wrong, check_right, check_out, check_in, check_past, check_room, end_within}
+use Rattle.rowcheck.proofs.wrong_row.Goals.{then-row-after, else-row-after}
 use Rattle.rowcheck.proofs.wrong_row.Goals as goal
 
-pub loop-depth-init : goal.loop-depth-init
-loop-depth-init c = check_start _ _ _ _ _ refl
+pub loop-row-init : goal.loop-row-init
+loop-row-init c = check_start _ _ _ _ _ c.new-ends.ensures
 
-pub loop-depth-preserved-then-end-row : goal.loop-depth-preserved-then-end-row
-loop-depth-preserved-then-end-row c = check_out_at _ _ _ _ _ _ _ _ c.loop-depth.invariant _ c.to_usize-end.ensures
-    (elim c.if-depth-gt0.branch [ then-depth-gt0 w ↦ w.if-depth-gt0.true | else-depth-gt0+then-row-end w ↦ omega arith ]) c.if-end-row.true
+pub row_fits-requires : goal.row_fits-requires
+row_fits-requires c =
+    let l = end_within _ _ _ _ _ _ _ c.loop-row.invariant in
+    (c.if-row-end.true, (omega (arith, c.requires.0), omega (arith, c.requires.1)))
 
 pub returns-then-not-row_fits : goal.returns-then-not-row_fits
 returns-then-not-row_fits c =
-    sym (ap refused
-    (check_wrong _ _ _ _ _ _ _ _ c.loop-depth.invariant c.if-end-row.false (sym c.row_fits.ensures ∙ c.if-not-row_fits.true)))
+    sym (check_wrong _ _ _ _ _ _ _ c.loop-row.invariant _ c.len.ensures.0 c.if-row-end.true (sym c.row_fits.ensures ∙ c.if-not-row_fits.true))
 
-pub bounds-ends-depth-then-row-after : goal.bounds-ends-depth-then-row-after
-bounds-ends-depth-then-row-after c = (fits_row _ _ _ _ _ (sym c.row_fits.ensures ∙ c.if-not-row_fits.false)).shallow
+pub place-after-requires : goal.place-after-requires
+place-after-requires c =
+    let l = end_within _ _ _ _ _ _ _ c.loop-row.invariant in
+    omega (arith, c.requires.0)
 
-pub loop-depth-preserved : goal.loop-depth-preserved
-loop-depth-preserved c =
-    let fits = sym c.row_fits.ensures ∙ c.if-not-row_fits.false in
+pub overflow_cast-end : goal.overflow_cast-end
+overflow_cast-end c =
+    let l = end_within _ _ _ _ _ _ _ c.loop-row.invariant in
+    omega (arith, c.requires.1)
+
+pub push-requires : goal.push-requires
+push-requires c =
+    (omega arith, check_room _ _ _ _ _ _ _ c.loop-row.invariant _ c.len.ensures.0 (sym c.row_fits.ensures ∙ c.if-not-row_fits.false))
+
+pub loop-row-smaller-then-row-end : goal.loop-row-smaller-then-row-end
+loop-row-smaller-then-row-end c =
+    let l = end_within _ _ _ _ _ _ _ c.loop-row.invariant in
     elim c.if-row-after.branch [
-      | then-row-after w ↦ check_as _ _ _ _ _ _ _ _ _ _ _ w.ends-is w.depth-is w.end-is
-          (check_in _ _ _ _ _ _ _ _ c.loop-depth.invariant c.place-after.result c.if-end-row.false c.place-after.ensures.0 fits)
-      | else-row-after w ↦ check_as _ _ _ _ _ _ _ _ _ _ _ w.ends-is w.depth-is w.end-is
-          (check_past _ _ _ _ _ _ _ _ c.loop-depth.invariant c.place-after.result c.if-end-row.false c.place-after.ensures.0 fits w.if-row-after.false)
+      | then-row-after w ↦ omega (arith, ap length (w.ends-is ∙ w.push.ensures))
+      | else-row-after w ↦ omega (arith, ap length w.ends-is)
     ]
 
-pub returns : goal.returns
-returns c = sym (ap refused (check_right _ _ _ _ _ _ _ _ c.loop-depth.invariant c.if-depth-gt0.false c.if-row-end.false))
+pub loop-row-preserved-then-row-end : goal.loop-row-preserved-then-row-end
+loop-row-preserved-then-row-end c =
+    let fits = sym c.row_fits.ensures ∙ c.if-not-row_fits.false in
+    elim c.if-row-after.branch [
+      | then-row-after w ↦ rw w.end-is
+          (check_in _ _ _ _ _ _ _ c.loop-row.invariant _ c.len.ensures.0 c.place-after.result c.if-row-end.true c.place-after.ensures.0 fits _ (w.ends-is ∙ w.push.ensures))
+      | else-row-after w ↦ rw (w.ends-is, w.end-is)
+          (check_past _ _ _ _ _ _ _ c.loop-row.invariant _ c.len.ensures.0 c.place-after.result c.if-row-end.true c.place-after.ensures.0 fits w.if-row-after.false)
+    ]
+
+pub loop-row-preserved : goal.loop-row-preserved
+loop-row-preserved c =
+    check_out _ _ _ _ _ _ _ c.loop-row.invariant _ _ c.in-Some.ensures c.if-row-end.false
+
+pub returns-in-None : goal.returns-in-None
+returns-in-None c = sym (check_right _ _ _ _ _ _ _ c.loop-row.invariant c.in-None.ensures.0 c.if-row-end.false)

@@ -1,31 +1,22 @@
--- Three stores, one after the other.
-use mathlib.Core.Path.{◌≡◌, ap₂}
-use Prim.Native.Nat.{ℕ, suc, ◌+◌}
-use native.Mathlib.Omega.{arith}
-use lib.ListN.{set, length-set}
+-- The three cells stand where they are put.
+use Rattle.std.proofs.Common.{◌≡◌, sym, ap, ◌∙◌, List, [], ◌∷◌, ◌++◌, ℕ, ◌+◌, ◌≤◌, length, take, drop, append_assoc, arith}
+use lib.Seq.{sets, sets-eq, drop-drop}
+use Rattle.batch.specs.Whole.{cells}
 use Rattle.batch.proofs.writing.write_row.Goals as goal
 
-next : (n : ℕ) → n + 1 ≡ suc n
-next n = omega arith
-
-second : (n : ℕ) → n + 2 ≡ suc (suc n)
-second n = omega arith
-
-pub bounds-table-at-2 : goal.bounds-table-at-2
-bounds-table-at-2 c = omega
-    (arith, c.requires.0, length-set c.args.table.now c.args.at c.args.row.number)
-
-pub bounds-table-at-3 : goal.bounds-table-at-3
-bounds-table-at-3 c =
-    omega (
-      arith,
-      c.requires.0,
-      length-set c.args.table.now c.args.at c.args.row.number,
-      length-set (set c.args.table.now c.args.at c.args.row.number) (c.args.at + 1) c.args.row.place,
+stored : (table part : List ℕ) (at k : ℕ) (row : List ℕ) → part ≡ row → k ≡ length row → at + length row ≤ length table
+    → take at table ++ (part ++ drop k (drop at table)) ≡ sets table at row
+stored table part at k row e f h =
+    rw (e, f) (
+    ap (λ (l : List ℕ). take at table ++ (row ++ l)) (drop-drop (length row) at table)
+    ∙ sym (append_assoc (take at table) row (drop (at + length row) table))
+    ∙ sym (sets-eq row table at h)
     )
 
 pub returns : goal.returns
 returns c =
-    ap₂ (λ (i j : ℕ). set (set (set c.args.table.now c.args.at c.args.row.number) i c.args.row.place) j
-    c.args.row.bytes)
-    (next c.args.at) (second c.args.at)
+    let row = c.args.row in
+    stored c.args.table.now _ c.args.at _ (cells row)
+    (c.copy_from_slice.ensures.after ∙ ap (λ (n : ℕ). n ∷ row.place ∷ row.bytes ∷ []) c.from.ensures)
+    (omega arith)
+    (omega (arith, c.requires.0))

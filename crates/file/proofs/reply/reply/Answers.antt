@@ -1,11 +1,12 @@
 -- The text stands in the output already; a refusal left it as it was, and the line is put there.
-use native.Mathlib.Omega.{arith}
+use Rattle.std.proofs.Common.{sym, ap, ◌∙◌, length, arith}
 use Rattle.file.proofs.Replied.{replied_text, replied_line}
 use Rattle.file.proofs.reply.reply.Goals as goal
 
-pub returns-in-Text : goal.returns-in-Text
-returns-in-Text c = replied_text _ _ (omega arith) _ _ _ _ _ _ c.format_frame.ensures c.in-Text.is
+pub returns-in-Ok : goal.returns-in-Ok
+returns-in-Ok c = replied_text _ _ (omega arith) _ _ _ c.format_frame.ensures c.in-Ok.is
 
-pub returns-in-Refused : goal.returns-in-Refused
-returns-in-Refused c =
-    replied_line _ _ (omega arith) _ _ _ _ _ _ c.format_frame.ensures c.in-Refused.is c.refused_line.ensures
+pub returns-in-Err : goal.returns-in-Err
+returns-in-Err c =
+    let line = c.copy_from_slice.ensures.after ∙ c.as_bytes.ensures.value ∙ c.as_str.ensures.value in
+    replied_line _ _ (omega arith) _ _ _ c.format_frame.ensures c.in-Err.is _ _ (line ∙ c.refused_line-line.ensures) (c.len-end.ensures.value ∙ sym (ap length line))

@@ -1,14 +1,11 @@
--- The loop keeps that the whole list is read as the comments that are left are, and that these stand in the image.
+-- The loop keeps that the whole list is read as the comments that are left are.
 -- Assumes nothing.
 use mathlib.Core.Path.{◌≡◌}
-use Prim.Native.Nat.{◌+◌, ◌*◌, ◌≤◌}
-use lib.ListN.{length}
+use mathlib.Core.Bool.{false}
+use Prim.Native.Nat.{◌+◌, ◌-◌, ◌*◌}
 use Rattle.image.specs.Read.{comments_from}
 use Rattle.image.proofs.comments.comments_from.Given as goal
 
-abbrev pub invariant-loop-left : goal.invariant-loop-left
-invariant-loop-left l =
-    (l.at + 8 * l.left ≤ length l.b) × (comments_from l.ordered l.s l.b l.count 0 7 ≡ comments_from l.ordered l.s l.b l.left l.least l.at)
-
-abbrev pub decreases-loop-left : goal.decreases-loop-left
-decreases-loop-left l = l.left
+abbrev pub invariant-loop-i : goal.invariant-loop-i
+invariant-loop-i l =
+    comments_from false l.source l.image l.count 0 7 ≡ comments_from false l.source l.image (l.count - l.i) 0 (7 + 8 * l.i)

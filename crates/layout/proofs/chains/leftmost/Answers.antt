@@ -5,15 +5,16 @@ use lib.ListN.{length, length-set}
 use Rattle.tree.specs.At.{ExprAt}
 use Rattle.layout.specs.Chains.{top, up}
 use Rattle.layout.proofs.Places.{expr_whole}
+use Rattle.layout.proofs.Ranks.{rank_same, rank_apart}
 use Rattle.layout.proofs.Operands.{down, stop_kind, stop_op, symbol_of, filled_more, room_left}
 use Rattle.layout.proofs.chains.leftmost.Goals as goal
 
 pub overflow_add-p : goal.overflow_add-p
 overflow_add-p c = let w = expr_whole _ _ _ _ c.requires.has_chain.held in omega (arith, w.long, w.fits)
 
-pub loop-ops-init : goal.loop-ops-init
+pub loop-q-init : goal.loop-q-init
 unfolding ExprAt
-loop-ops-init c = let h : length c.args.ops.now ≡ 64 = c.requires.ops_len in
+loop-q-init c = let h : length c.args.ops.now ≡ 64 = c.requires.ops_len in
     let z : c.args.at ≡ c.args.at + 13 * 0 = omega arith in (
       length-set c.args.ops.now 0 c.args.at ∙ h,
       omega arith,
@@ -26,87 +27,87 @@ loop-ops-init c = let h : length c.args.ops.now ≡ 64 = c.requires.ops_len in
 pub kind-requires : goal.kind-requires
 kind-requires c =
     let z =
-    c.loop-ops.invariant.5 c.requires.has_chain.source c.requires.has_chain.tree c.requires.has_chain.held c.requires.has_chain.same
+    c.loop-q.invariant.5 c.requires.has_chain.source c.requires.has_chain.tree c.requires.has_chain.held c.requires.has_chain.same
     in
     expr_whole _ _ _ z.0 z.2
 
 pub precedence-requires : goal.precedence-requires
 precedence-requires c =
-    let z = c.loop-ops.invariant.5 c.requires.has_chain.source c.requires.has_chain.tree c.requires.has_chain.held c.requires.has_chain.same in
+    let z = c.loop-q.invariant.5 c.requires.has_chain.source c.requires.has_chain.tree c.requires.has_chain.held c.requires.has_chain.same in
     let w = symbol_of _ _ _ (sym c.kind.ensures ∙ c.if-kind-ne-BIN_OP.false) z.0 z.2 in record { in_image = w.operand; at_in_bounds = w.byte }
 
 pub offset_bounds-ops-n : goal.offset_bounds-ops-n
-offset_bounds-ops-n c = omega (arith, c.loop-ops.invariant.3)
+offset_bounds-ops-n c = omega (arith, c.loop-q.invariant.3)
 
 pub bounds-ops-n : goal.bounds-ops-n
 bounds-ops-n c =
-    let z = c.loop-ops.invariant.5 c.requires.has_chain.source c.requires.has_chain.tree c.requires.has_chain.held c.requires.has_chain.same in
+    let z = c.loop-q.invariant.5 c.requires.has_chain.source c.requires.has_chain.tree c.requires.has_chain.held c.requires.has_chain.same in
     let f =
     room_left _ _ c.requires.has_chain.tree _ _ _ _ z.0 c.requires.has_chain.held z.1 z.2
-    (sym c.kind.ensures ∙ c.if-kind-ne-BIN_OP.false) c.loop-ops.invariant.1
+    (sym c.kind.ensures ∙ c.if-kind-ne-BIN_OP.false) c.loop-q.invariant.1
     in
-    omega (arith, f, c.loop-ops.invariant.0)
+    omega (arith, f, c.loop-q.invariant.0)
 
 pub overflow_add-n : goal.overflow_add-n
-overflow_add-n c = omega (arith, c.loop-ops.invariant.3)
+overflow_add-n c = omega (arith, c.loop-q.invariant.3)
 
-pub overflow_add-p-in-loop-ops : goal.overflow_add-p-in-loop-ops
-overflow_add-p-in-loop-ops c =
-    let z = c.loop-ops.invariant.5 c.requires.has_chain.source c.requires.has_chain.tree c.requires.has_chain.held c.requires.has_chain.same in
+pub overflow_add-p-in-loop-q : goal.overflow_add-p-in-loop-q
+overflow_add-p-in-loop-q c =
+    let z = c.loop-q.invariant.5 c.requires.has_chain.source c.requires.has_chain.tree c.requires.has_chain.held c.requires.has_chain.same in
     let w = expr_whole _ _ _ z.0 z.2 in
     omega (arith, w.long, w.fits)
 
-pub loop-ops-smaller : goal.loop-ops-smaller
-loop-ops-smaller c =
-    let z = c.loop-ops.invariant.5 c.requires.has_chain.source c.requires.has_chain.tree c.requires.has_chain.held c.requires.has_chain.same in
+pub loop-q-smaller : goal.loop-q-smaller
+loop-q-smaller c =
+    let z = c.loop-q.invariant.5 c.requires.has_chain.source c.requires.has_chain.tree c.requires.has_chain.held c.requires.has_chain.same in
     let w = expr_whole _ _ _ z.0 z.2 in
     omega (arith, w.long, w.fits)
 
-pub loop-ops-preserved : goal.loop-ops-preserved
-loop-ops-preserved c =
-    let z = c.loop-ops.invariant.5 c.requires.has_chain.source c.requires.has_chain.tree c.requires.has_chain.held c.requires.has_chain.same in
+pub loop-q-preserved : goal.loop-q-preserved
+loop-q-preserved c =
+    let z = c.loop-q.invariant.5 c.requires.has_chain.source c.requires.has_chain.tree c.requires.has_chain.held c.requires.has_chain.same in
     let f =
     room_left _ _ c.requires.has_chain.tree _ _ _ _ z.0 c.requires.has_chain.held z.1 z.2
-    (sym c.kind.ensures ∙ c.if-kind-ne-BIN_OP.false) c.loop-ops.invariant.1
+    (sym c.kind.ensures ∙ c.if-kind-ne-BIN_OP.false) c.loop-q.invariant.1
     in (
-      length-set c.loop-ops.ops c.loop-ops.n c.loop-ops.p ∙ c.loop-ops.invariant.0,
-      omega (arith, c.loop-ops.invariant.1),
+      length-set c.loop-q.ops c.loop-q.n c.loop-q.p ∙ c.loop-q.invariant.0,
+      omega (arith, c.loop-q.invariant.1),
       omega arith,
       omega (arith, f),
-      filled_more c.loop-ops.ops _ _ _ (omega (arith, f, c.loop-ops.invariant.0)) c.loop-ops.invariant.1 c.loop-ops.invariant.4,
+      filled_more c.loop-q.ops _ _ _ (omega (arith, f, c.loop-q.invariant.0)) c.loop-q.invariant.1 c.loop-q.invariant.4,
       λ s t a h.
-          let y = c.loop-ops.invariant.5 s t a h in
-          down s _ _ _ _ (sym c.kind.ensures ∙ c.if-kind-ne-BIN_OP.false) c.precedence.ensures c.if-precedence-q.false y.1 y.2,
+          let y = c.loop-q.invariant.5 s t a h in
+          down s _ _ _ _ (sym c.kind.ensures ∙ c.if-kind-ne-BIN_OP.false) c.precedence.ensures (rank_same _ _ (sym c.ne.ensures ∙ c.if-ne.false)) y.1 y.2,
     )
 
 pub returns-then-kind-ne-BIN_OP : goal.returns-then-kind-ne-BIN_OP
 returns-then-kind-ne-BIN_OP c = record {
   filled = record {
-    count = c.loop-ops.n;
-    far = c.loop-ops.invariant.1;
-    few = c.loop-ops.invariant.3;
-    each = c.loop-ops.invariant.4;
+    count = c.loop-q.n;
+    far = c.loop-q.invariant.1;
+    few = c.loop-q.invariant.3;
+    each = c.loop-q.invariant.4;
   };
-  further = omega (arith, c.loop-ops.invariant.1, c.loop-ops.invariant.2);
+  further = omega (arith, c.loop-q.invariant.1, c.loop-q.invariant.2);
   of =
       λ s t a h.
-      let z = c.loop-ops.invariant.5 s t a h in
+      let z = c.loop-q.invariant.5 s t a h in
       record { tree = z.0; above = z.1; held = z.2; stop = stop_kind s _ _ _ z.0 z.2 (λ e. c.if-kind-ne-BIN_OP.true (c.kind.ensures ∙ e)) };
 }
 
-pub returns-then-precedence-q : goal.returns-then-precedence-q
-returns-then-precedence-q c =
+pub returns-then-ne : goal.returns-then-ne
+returns-then-ne c =
     record {
-      filled = record { count = c.loop-ops.n; far = c.loop-ops.invariant.1; few = c.loop-ops.invariant.3; each = c.loop-ops.invariant.4 };
-      further = omega (arith, c.loop-ops.invariant.1, c.loop-ops.invariant.2);
+      filled = record { count = c.loop-q.n; far = c.loop-q.invariant.1; few = c.loop-q.invariant.3; each = c.loop-q.invariant.4 };
+      further = omega (arith, c.loop-q.invariant.1, c.loop-q.invariant.2);
       of =
           λ s t a h.
-          let z = c.loop-ops.invariant.5 s t a h in
+          let z = c.loop-q.invariant.5 s t a h in
           record {
             tree = z.0;
             above = z.1;
             held = z.2;
             stop =
-                stop_op s _ _ _ _ (sym c.kind.ensures ∙ c.if-kind-ne-BIN_OP.false) c.precedence.ensures z.0 c.if-precedence-q.true z.2;
+                stop_op s _ _ _ _ (sym c.kind.ensures ∙ c.if-kind-ne-BIN_OP.false) c.precedence.ensures z.0 (rank_apart _ _ (sym c.ne.ensures ∙ c.if-ne.true)) z.2;
           };
     }

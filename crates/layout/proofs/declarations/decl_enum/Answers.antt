@@ -3,8 +3,10 @@ use Rattle.acts.proofs.Laws.{lays, room_first, room_next, lays_then}
 use Rattle.layout.specs.Layout as rules
 use Rattle.tree.specs.At.{DeclarationAt}
 use Rattle.layout.proofs.Places.{within, head_whole, ident_whole, maybe_list}
+use Rattle.layout.specs.Elems.{VariantAt, variant_rule}
+use Rattle.layout.proofs.Listing.{has_each, lays_each}
 use Rattle.layout.proofs.Runs.{list_of, variant_elems_lem}
-use Rattle.layout.proofs.Lays.{lays_as, lays_list, laid_as}
+use Rattle.layout.proofs.Lays.{lays_as, laid_as}
 use Rattle.layout.proofs.declarations.decl_enum.Goals as goal
 
 pub second-p-requires : goal.second-p-requires
@@ -48,7 +50,8 @@ end-requires c =
 pub separated-requires : goal.separated-requires
 unfolding DeclarationAt rules.declaration
 separated-requires c =
-    rw c.third-q.ensures (record {
+    has_each VariantAt variant_rule _ (λ p low high x d h. h) (λ p x y d k r. r.1)
+    (rw c.third-q.ensures (record {
       accepted = c.requires.accepted;
       tree = rules.variant_elems _ c.requires.tree.3;
       held = list_of c.requires.held.3 (variant_elems_lem _ _ _ _ c.requires.tree.3 c.requires.held.4);
@@ -60,7 +63,7 @@ separated-requires c =
           ((lays_as c.requires.accepted c.some_type_params-e.ensures).of c.requires.tree.1
           (rw c.second-p.ensures c.requires.held.2)))
           (lays c.word-f.ensures);
-    })
+    }))
 
 pub returns : goal.returns
 unfolding DeclarationAt rules.declaration
@@ -70,7 +73,7 @@ returns c =
           λ x a. lays_then ((lays_as c.requires.accepted c.declares-d.ensures).of x.0 a.1) (lays_then
           ((lays_as c.requires.accepted c.some_type_params-e.ensures).of x.1 (rw c.second-p.ensures a.2))
           (lays_then (lays c.word-f.ensures) ((rw c.third-q.ensures
-          at (lays_list c.requires.accepted c.separated.ensures)).of
+          at (lays_each VariantAt variant_rule _ (λ p low high x d h. h) (λ p x y d k r. r.1) c.requires.accepted c.separated.ensures)).of
           (rules.variant_elems _ x.3) (list_of a.3 (variant_elems_lem _ _ _ _ x.3 a.4)) x.2
           ((rw c.third-q.ensures at c.end.ensures) ∙ a.3.end))));
     })

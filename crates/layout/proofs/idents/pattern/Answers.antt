@@ -1,11 +1,14 @@
+use Rattle.layout.specs.Layout as rules
 use mathlib.Core.Path.{◌≡◌, sym, ◌∙◌}
 use Prim.Native.Nat.{◌+◌}
 use native.Mathlib.Omega.{arith}
 use Rattle.image.specs.Bytes.{be32}
 use Rattle.image.specs.Read.{stop_at}
 use Rattle.acts.proofs.Laws.{lays}
-use Rattle.layout.proofs.Lays.{lays_as, laid_as, lays_list}
+use Rattle.layout.proofs.Lays.{lays_as, laid_as}
 use Rattle.layout.proofs.Places.{absent, present, within, ident_whole, pattern_whole}
+use Rattle.tree.specs.At.{IdentAt}
+use Rattle.layout.proofs.Listing.{has_each, lays_each}
 use Rattle.layout.proofs.Optionals.{fields_list, pattern_parts, any_room, any_pattern, bare_pattern, full_pattern, fields_whole}
 use Rattle.layout.proofs.idents.pattern.Goals as goal
 
@@ -58,8 +61,9 @@ separated-requires c =
     let f : be32 c.args.b.now (stop_at c.args.b.now (c.args.at + 13)) ≡ 0 → ⊥ =
     present (rw c.second-p.ensures at c.is_absent.ensures) c.if-is_absent.false
     in
-    rw (c.end.ensures, c.second-p.ensures)
-    (fields_list (λ e. c.if-kind-eq-UNDERSCORE.false (c.kind.ensures ∙ e)) f (lays_as c.requires.accepted c.ident-d.ensures) c.requires)
+    has_each IdentAt rules.ident _ (λ p low high x d h. h) (λ p x y d k r. r.1)
+    (rw (c.end.ensures, c.second-p.ensures)
+    (fields_list (λ e. c.if-kind-eq-UNDERSCORE.false (c.kind.ensures ∙ e)) f (lays_as c.requires.accepted c.ident-d.ensures) c.requires))
 
 pub returns : goal.returns
 returns c =
@@ -68,4 +72,5 @@ returns c =
     present (rw c.second-p.ensures at c.is_absent.ensures) c.if-is_absent.false
     in
     full_pattern (λ e. c.if-kind-eq-UNDERSCORE.false (c.kind.ensures ∙ e)) f (lays_as c.requires.accepted c.ident-d.ensures)
-    (rw (c.end.ensures, c.second-p.ensures) at (lays_list c.requires.accepted c.separated.ensures)))
+    (rw (c.end.ensures, c.second-p.ensures) at
+    (lays_each IdentAt rules.ident _ (λ p low high x d h. h) (λ p x y d k r. r.1) c.requires.accepted c.separated.ensures)))

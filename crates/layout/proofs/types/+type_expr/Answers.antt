@@ -1,9 +1,11 @@
-use mathlib.Core.Path.{◌≡◌, refl, sym, ◌∙◌}
-use Prim.Native.Nat.{◌+◌}
+use mathlib.Core.Path.{◌≡◌, sym, ap, ◌∙◌}
+use Prim.Native.Nat.{◌+◌, ℕ}
 use native.Mathlib.Omega.{arith}
 use Rattle.acts.proofs.Laws.{lays, lays_then, room_first, room_next}
-use Rattle.layout.proofs.Lays.{lays_as, laid_list, lays_empty, laid_as, lays_list}
-use Rattle.layout.proofs.Runs.{elems_first, before_room, elem_has, elems_rest, elems_none, elems_more, elem_of, elem_laid, list_of, field_elems_lem, empty_has, empty_laid, begins, elems_all, elems_done, list_laid}
+use Rattle.layout.proofs.Lays.{lays_as, laid_as}
+use Rattle.layout.specs.Elems.{FieldAt, field_rule}
+use Rattle.layout.proofs.Listing.{has_each, lays_each}
+use Rattle.layout.proofs.Runs.{list_of, field_elems_lem}
 use Rattle.tree.specs.At.{TypeAt}
 use Rattle.layout.specs.Layout as rules
 use Rattle.layout.proofs.Places.{type_whole, absent, present, within, path_whole, args_within, ident_whole, head_whole}
@@ -11,22 +13,6 @@ use Rattle.layout.proofs.TypeForms.{never_of, unit_of, type_is, type_kind, type_
 use Rattle.image.specs.Bytes.{be32}
 use Rattle.image.specs.Read.{stop_at}
 use Rattle.layout.proofs.types.+type_expr.Goals as goal
-
-pub elem-type_expr-requires : goal.elem-type_expr-requires
-elem-type_expr-requires t c =
-    (omega (arith, c.decreases), elem_of (rw c.in-Type.is at c.requires))
-
-pub elem-field-requires : goal.elem-field-requires
-elem-field-requires t c =
-    (omega (arith, c.decreases), elem_of (rw c.in-Field.is at c.requires))
-
-pub elem-returns-in-Type : goal.elem-returns-in-Type
-elem-returns-in-Type t c =
-    rw c.in-Type.is (laid_as (elem_laid (lays_as c.requires.accepted c.type_expr.ensures)))
-
-pub elem-returns-in-Field : goal.elem-returns-in-Field
-elem-returns-in-Field t c =
-    rw c.in-Field.is (laid_as (elem_laid (lays_as c.requires.accepted c.field.ensures)))
 
 pub field-second-p-requires : goal.field-second-p-requires
 field-second-p-requires t c = within (ident_whole c.requires.held.1)
@@ -72,108 +58,24 @@ pub record_type-end-requires : goal.record_type-end-requires
 record_type-end-requires t c = head_whole c.requires.held.0
 
 pub record_type-separated-requires : goal.record_type-separated-requires
-record_type-separated-requires t c = (
-  omega (arith, c.decreases),
-  record {
-    accepted = c.requires.accepted;
-    tree = rules.field_elems _ c.requires.tree.1;
-    held = list_of c.requires.held.0 (field_elems_lem _ _ _ _ c.requires.tree.1 c.requires.held.1);
-    span = c.requires.tree.0;
-    ended = c.end.ensures ∙ c.requires.held.0.end;
-    room = c.requires.room;
-  },
-)
+record_type-separated-requires t c =
+    has_each FieldAt field_rule _ (λ p low high x d h. (omega (arith, c.decreases, low, high), h)) (λ p x y d k r. r.1)
+    ((record {
+      accepted = c.requires.accepted;
+      tree = rules.field_elems _ c.requires.tree.1;
+      held = list_of c.requires.held.0 (field_elems_lem _ _ _ _ c.requires.tree.1 c.requires.held.1);
+      span = c.requires.tree.0;
+      ended = c.end.ensures ∙ c.requires.held.0.end;
+      room = c.requires.room;
+    }))
 
 pub record_type-returns : goal.record_type-returns
 record_type-returns t c =
     laid_as (record {
       of =
-          λ x a. (lays_list c.requires.accepted c.separated.ensures).of (rules.field_elems _ x.1)
+          λ x a. (lays_each FieldAt field_rule _ (λ p low high x d h. (omega (arith, c.decreases, low, high), h)) (λ p x y d k r. r.1) c.requires.accepted c.separated.ensures).of (rules.field_elems _ x.1)
           (list_of a.0 (field_elems_lem _ _ _ _ x.1 a.1)) x.0 (c.end.ensures ∙ a.0.end);
     })
-
-pub separated-past-last-requires : goal.separated-past-last-requires
-separated-past-last-requires t c = record { fits = c.requires.held.fits }
-
-pub separated-overflow_add-at : goal.separated-overflow_add-at
-separated-overflow_add-at t c =
-    omega (arith, c.requires.accepted.small, c.requires.held.long, c.requires.held.fits)
-
-pub separated-empty_list-requires : goal.separated-empty_list-requires
-separated-empty_list-requires t c =
-    empty_has (c.if-at-last.true ∙ c.past-last.ensures) c.requires
-
-pub separated-returns-then-at-last : goal.separated-returns-then-at-last
-separated-returns-then-at-last t c =
-    laid_list (empty_laid (c.if-at-last.true ∙ c.past-last.ensures) (lays_empty c.requires.accepted c.empty_list.ensures))
-
-pub separated-begin_list-i-requires : goal.separated-begin_list-i-requires
-separated-begin_list-i-requires t c =
-    begins (λ e. c.if-at-last.false (e ∙ sym c.past-last.ensures)) c.requires
-
-pub separated-overflow_add-p : goal.separated-overflow_add-p
-separated-overflow_add-p t c =
-    omega (arith, c.requires.accepted.small, c.requires.held.long, c.requires.held.fits)
-
-pub separated-loop-p-init : goal.separated-loop-p-init
-separated-loop-p-init t c = (
-  refl,
-  omega arith,
-  rw c.past-last.ensures
-      (elems_all (λ e. c.if-at-last.false (e ∙ sym c.past-last.ensures)) c.requires c.begin_list-i.ensures),
-  λ x e l. l,
-)
-
-pub separated-start-requires : goal.separated-start-requires
-separated-start-requires t c =
-    let m = elems_first _ c.args.form.commas c.loop-p.first c.loop-p-test.true c.loop-p.invariant.2 in
-    m.whole
-
-pub separated-before_elem-d-requires : goal.separated-before_elem-d-requires
-separated-before_elem-d-requires t c =
-    let m = elems_first _ c.args.form.commas c.loop-p.first c.loop-p-test.true c.loop-p.invariant.2 in record { readable = c.requires.accepted; room = before_room _ _ _ m c.start.ensures }
-
-pub separated-elem-d-requires : goal.separated-elem-d-requires
-separated-elem-d-requires t c =
-    let m = elems_first _ c.args.form.commas c.loop-p.first c.loop-p-test.true c.loop-p.invariant.2 in (
-      omega (arith, c.decreases, m.least, c.loop-p.invariant.1, c.past-last.ensures),
-      elem_has _ _ _ m c.start.ensures (lays c.before_elem-d.ensures),
-    )
-
-pub separated-past-p-requires : goal.separated-past-p-requires
-separated-past-p-requires t c =
-    let m = elems_first _ c.args.form.commas c.loop-p.first c.loop-p-test.true c.loop-p.invariant.2 in
-    record { fits = m.whole.fits }
-
-pub separated-loop-p-smaller : goal.separated-loop-p-smaller
-separated-loop-p-smaller t c =
-    let m = elems_first _ c.args.form.commas c.loop-p.first c.loop-p-test.true c.loop-p.invariant.2 in
-    omega (arith, m.least, m.whole.long, c.past-p.ensures, c.loop-p-test.true)
-
-pub separated-loop-p-preserved : goal.separated-loop-p-preserved
-separated-loop-p-preserved t c =
-    let m = elems_first _ c.args.form.commas c.loop-p.first c.loop-p-test.true c.loop-p.invariant.2 in (
-      c.elem-d.auto.store ∙ c.before_elem-d.auto.store ∙ c.loop-p.invariant.0,
-      omega (arith, c.past-p.ensures, c.loop-p.invariant.1),
-      rw c.past-p.ensures (elems_rest _ _ _ m c.start.ensures (lays c.before_elem-d.ensures)
-          (lays_as c.requires.accepted c.elem-d.ensures)),
-      λ x e l. c.loop-p.invariant.3 x e (elems_more _ c.args.form.commas c.loop-p.first c.loop-p-test.true
-          c.start.ensures (lays c.before_elem-d.ensures)
-          (lays_as c.requires.accepted c.elem-d.ensures) (rw c.past-p.ensures at l)),
-    )
-
-pub separated-finish_list-requires : goal.separated-finish_list-requires
-separated-finish_list-requires t c =
-    elems_done (λ e. c.if-at-last.false (e ∙ sym c.past-last.ensures)) c.requires c.begin_list-i.ensures
-    (rw c.past-last.ensures
-    at (c.loop-p.invariant.3 _ _ (elems_none _ c.args.form.commas c.loop-p.first c.loop-p-test.false)))
-
-pub separated-returns : goal.separated-returns
-separated-returns t c =
-    laid_list (list_laid (λ e. c.if-at-last.false (e ∙ sym c.past-last.ensures)) c.requires.accepted
-    c.begin_list-i.ensures (rw c.past-last.ensures
-    at (c.loop-p.invariant.3 _ _ (elems_none _ c.args.form.commas c.loop-p.first c.loop-p-test.false)))
-    c.finish_list.ensures)
 
 pub type_expr-kind-requires : goal.type_expr-kind-requires
 type_expr-kind-requires t c = type_whole _ _ _ c.requires.tree c.requires.held
@@ -300,20 +202,18 @@ type_path-end-requires t c =
 pub type_path-separated-requires : goal.type_path-separated-requires
 unfolding TypeAt rules.type_form
 type_path-separated-requires t c =
-    let f : be32 c.args.b.now (stop_at c.args.b.now (c.args.at + 13)) ≡ 0 → ⊥ =
+    has_each TypeAt rules.type_expr _ (λ p low high x d h. (omega (arith, c.decreases, low, high, c.second-p.ensures, ap (λ (n : ℕ). stop_at c.args.b.now n) c.second-p.ensures, c.requires.held.1.2.same), h)) (λ p x y d k r. r.1)
+    (let f : be32 c.args.b.now (stop_at c.args.b.now (c.args.at + 13)) ≡ 0 → ⊥ =
     present (rw c.second-p.ensures at c.is_absent.ensures) c.if-is_absent.false
     in
-    rw (c.end.ensures, c.second-p.ensures) (
-      omega (arith, c.decreases, c.requires.held.1.2.same),
-      args_list f (record {
-        accepted = c.requires.accepted;
-        tree = c.requires.tree.1.1;
-        held = c.requires.held.1.1;
-        room =
-            room_next c.requires.room
-            ((lays_as c.requires.accepted c.path-d.ensures).of c.requires.tree.1.0 c.requires.held.1.0);
-      }),
-    )
+    rw (c.end.ensures, c.second-p.ensures) (args_list f (record {
+      accepted = c.requires.accepted;
+      tree = c.requires.tree.1.1;
+      held = c.requires.held.1.1;
+      room =
+          room_next c.requires.room
+          ((lays_as c.requires.accepted c.path-d.ensures).of c.requires.tree.1.0 c.requires.held.1.0);
+    })))
 
 pub type_path-returns : goal.type_path-returns
 unfolding TypeAt rules.type_form
@@ -322,7 +222,7 @@ type_path-returns t c =
     (let f : be32 c.args.b.now (stop_at c.args.b.now (c.args.at + 13)) ≡ 0 → ⊥ =
     present (rw c.second-p.ensures at c.is_absent.ensures) c.if-is_absent.false
     in
-    let l = rw (c.end.ensures, c.second-p.ensures) at (lays_list c.requires.accepted c.separated.ensures) in
+    let l = rw (c.end.ensures, c.second-p.ensures) at (lays_each TypeAt rules.type_expr _ (λ p low high x d h. (omega (arith, c.decreases, low, high, c.second-p.ensures, ap (λ (n : ℕ). stop_at c.args.b.now n) c.second-p.ensures, c.requires.held.1.2.same), h)) (λ p x y d k r. r.1) c.requires.accepted c.separated.ensures) in
     record {
       of = λ x a. lays_then ((lays_as c.requires.accepted c.path-d.ensures).of x.1.0 a.1.0) ((some_args f l).of x.1.1 a.1.1);
     })

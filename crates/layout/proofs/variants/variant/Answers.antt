@@ -1,7 +1,10 @@
 use native.Mathlib.Omega.{arith}
 use Rattle.acts.proofs.Laws.{lays_then, room_first, room_next}
-use Rattle.layout.proofs.Lays.{lays_as, laid_as, lays_list}
+use Rattle.layout.proofs.Lays.{lays_as, laid_as}
 use Rattle.layout.proofs.Places.{within, ident_whole}
+use Rattle.tree.specs.At.{TypeAt}
+use Rattle.layout.specs.Layout.{type_expr}
+use Rattle.layout.proofs.Listing.{has_each, lays_each}
 use Rattle.layout.proofs.TypeForms.{some_types, no_types_lem, types_laid, types_list}
 use Rattle.layout.proofs.variants.variant.Goals as goal
 
@@ -40,15 +43,16 @@ last_end-last-requires c =
 
 pub separated-requires : goal.separated-requires
 separated-requires c =
-    rw c.second-p.ensures (types_list c.requires.accepted
+    has_each TypeAt type_expr _ (λ p low high x d h. h) (λ p x y d k r. r.1)
+    (rw c.second-p.ensures (types_list c.requires.accepted
     (λ e. c.if-p-to.false (rw (c.past-to.ensures, c.second-p.ensures) e)) c.requires.held.2.head
     (rw (c.past-to.ensures, c.second-p.ensures) at c.last_end-last.ensures) c.requires.tree.2 c.requires.held.3
-    (room_next c.requires.room ((lays_as c.requires.accepted c.ident-d.ensures).of c.requires.tree.1 c.requires.held.1)))
+    (room_next c.requires.room ((lays_as c.requires.accepted c.ident-d.ensures).of c.requires.tree.1 c.requires.held.1))))
 
 pub returns : goal.returns
 returns c =
     laid_as
-    (let l = rw c.second-p.ensures at (lays_list c.requires.accepted c.separated.ensures) in
+    (let l = rw c.second-p.ensures at (lays_each TypeAt type_expr _ (λ p low high x d h. h) (λ p x y d k r. r.1) c.requires.accepted c.separated.ensures) in
     let e = rw (c.past-to.ensures, c.second-p.ensures) at c.last_end-last.ensures in
     record {
       of =

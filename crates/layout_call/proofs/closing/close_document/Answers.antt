@@ -1,21 +1,15 @@
-use borrow.Author.Tests.{eq-eqb, ne_eqb}
+use borrow.Author.Tests.{eq-eqb}
 use Rattle.acts.proofs.Laws.{room_first, room_past, laid_then}
 use Rattle.layout_call.proofs.closing.close_document.Goals as goal
 
 pub place_waiting-d-requires : goal.place_waiting-d-requires
 place_waiting-d-requires c =
-    record { accepts = c.requires.accepts; room = room_first _ (rw (eq-eqb _ _ c.if-mode-eq-NEW_MODE.true) at c.requires.room) }
+    room_first _ (rw (eq-eqb _ _ c.if-mode-eq-NEW_MODE.true) at c.requires)
 
 pub line-requires : goal.line-requires
 line-requires c =
-    room_past (rw (eq-eqb _ _ c.if-mode-eq-NEW_MODE.true) at c.requires.room) c.place_waiting-d.ensures
+    room_past (rw (eq-eqb _ _ c.if-mode-eq-NEW_MODE.true) at c.requires) c.place_waiting-d.ensures
 
 pub returns-then-mode-eq-NEW_MODE : goal.returns-then-mode-eq-NEW_MODE
 returns-then-mode-eq-NEW_MODE c =
     rw (eq-eqb _ _ c.if-mode-eq-NEW_MODE.true) (laid_then c.place_waiting-d.ensures c.line.ensures)
-
-pub line-requires-2 : goal.line-requires-2
-line-requires-2 c = rw (ne_eqb _ _ c.if-mode-eq-NEW_MODE.false) at c.requires.room
-
-pub returns : goal.returns
-returns c = rw (ne_eqb _ _ c.if-mode-eq-NEW_MODE.false) c.line-2.ensures

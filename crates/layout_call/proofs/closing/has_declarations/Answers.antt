@@ -1,11 +1,11 @@
 use Rattle.layout_call.proofs.Standing.{first_in, tree_in, some_declared}
 use Rattle.layout_call.proofs.closing.has_declarations.Goals as goal
 
-pub past-end-requires : goal.past-end-requires
-past-end-requires c = tree_in c.requires
+pub past-requires : goal.past-requires
+past-requires c = tree_in c.args.file.accepts
 
-pub second-first-requires : goal.second-first-requires
-second-first-requires c = first_in c.requires
+pub second-requires : goal.second-requires
+second-requires c = first_in c.args.file.accepts
 
 pub returns : goal.returns
-returns c = some_declared c.requires c.second-first.result c.past-end.result c.second-first.ensures c.past-end.ensures
+returns c = some_declared c.args.file.accepts c.second.result c.past.result c.second.ensures c.past.ensures

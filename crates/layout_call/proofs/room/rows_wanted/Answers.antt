@@ -3,7 +3,7 @@ use native.Mathlib.Omega.{arith}
 use Rattle.layout_call.proofs.room.rows_wanted.Goals as goal
 
 pub overflow_mul-most : goal.overflow_mul-most
-overflow_mul-most c = omega (arith, (stands c.requires.0).small)
+overflow_mul-most c = omega (arith, (stands c.args.file.accepts).small)
 
 pub returns-then-most-rows : goal.returns-then-most-rows
 returns-then-most-rows c =
@@ -12,8 +12,7 @@ returns-then-most-rows c =
       enough =
           λ h. omega (
             arith,
-            few_rows c.requires.0 c.args.state c.args.args c.requires.1.0 c.args.c c.requires.1.1.1,
-            c.to_usize.ensures,
+            few_rows c.args.file.accepts c.args.state c.args.args c.requires.0 c.args.c c.requires.1.1,
             c.if-most-rows.true,
           );
     }

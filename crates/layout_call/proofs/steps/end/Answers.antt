@@ -3,7 +3,7 @@ use Rattle.layout_call.proofs.steps.end.Goals as goal
 
 pub close_document-requires : goal.close_document-requires
 close_document-requires c =
-    record { accepts = c.requires.accepts; room = rw c.if-args.true at c.requires.room }
+    rw c.if-args.true at c.requires
 
 pub returns-then-args : goal.returns-then-args
 returns-then-args c = rw c.if-args.true c.close_document.ensures

@@ -3,25 +3,23 @@ use Rattle.layout_call.proofs.Standing.{has_part, part_laid}
 use Rattle.layout_call.proofs.steps.lay.Goals as goal
 
 pub begin-d-requires : goal.begin-d-requires
-begin-d-requires c = record { accepts = c.requires.accepts.0; room = room_first _ c.requires.room }
+begin-d-requires c = room_first _ c.requires.room
 
 pub declarations-e-requires : goal.declarations-e-requires
 declarations-e-requires c =
     rw (c.declaration_at-p.ensures, c.declaration_at-q.ensures)
-    (has_part c.requires.accepts.0 _ _ c.requires.accepts.1.0 _ (room_first _ (room_past c.requires.room c.begin-d.ensures)))
+    (has_part c.args.file.accepts _ _ c.requires.stop.0 _ (room_first _ (room_past c.requires.room c.begin-d.ensures)))
 
 pub end-requires : goal.end-requires
 end-requires c =
-    record {
-      accepts = c.requires.accepts.0;
-      room = room_past (room_past c.requires.room c.begin-d.ensures) (part_laid c.requires.accepts.0 _ _ c.requires.accepts.1.0 _
-          (rw (c.declaration_at-p.ensures, c.declaration_at-q.ensures) at c.declarations-e.ensures)
-          (room_first _ (room_past c.requires.room c.begin-d.ensures)));
-    }
+    room_past (room_past c.requires.room c.begin-d.ensures)
+    (part_laid c.args.file.accepts _ _ c.requires.stop.0 _
+    (rw (c.declaration_at-p.ensures, c.declaration_at-q.ensures) at c.declarations-e.ensures)
+    (room_first _ (room_past c.requires.room c.begin-d.ensures)))
 
 pub returns : goal.returns
 returns c =
-    laid_then c.begin-d.ensures (laid_then (part_laid c.requires.accepts.0 _ _ c.requires.accepts.1.0 _
+    laid_then c.begin-d.ensures (laid_then (part_laid c.args.file.accepts _ _ c.requires.stop.0 _
     (rw (c.declaration_at-p.ensures, c.declaration_at-q.ensures) at c.declarations-e.ensures)
     (room_first _ (room_past c.requires.room c.begin-d.ensures)))
     c.end.ensures)

@@ -3,6 +3,3 @@ use Rattle.marks.proofs.keep.put_back.Given as goal
 
 abbrev pub invariant-loop-row : goal.invariant-loop-row
 invariant-loop-row l = Backing l.initial.store l.initial.marks l.from l.stop l.store l.marks l.row
-
-abbrev pub decreases-loop-row : goal.decreases-loop-row
-decreases-loop-row l = l.row

@@ -9,7 +9,7 @@ put_aside-requires c = rows_within _ _ _ _ _ _ c.requires
 
 pub run_rows-end-requires : goal.run_rows-end-requires
 run_rows-end-requires c =
-    dry_starts _ _ _ _ _ _ c.requires _ _ c.put_aside.ensures _ _ c.start_text-w.ensures
+    dry_starts _ _ _ _ _ _ c.requires _ _ c.put_aside.ensures _ c.start_text.ensures
 
 pub put_back-requires : goal.put_back-requires
 put_back-requires c =
@@ -18,5 +18,5 @@ put_back-requires c =
 
 pub returns : goal.returns
 returns c =
-    dry_ends _ _ _ _ _ _ c.requires _ _ c.put_aside.ensures _ _ c.start_text-w.ensures
-    (λ k. omega (arith, c.slice_known-2-1.given k)) _ _ _ _ _ c.run_rows-end.ensures c.put_back.ensures
+    dry_ends _ _ _ _ _ _ c.requires _ _ c.put_aside.ensures _ _ c.start_text.ensures
+    (λ k. omega (arith, c.slice_known-2-1.given k)) _ _ _ _ c.run_rows-end.ensures c.put_back.ensures

@@ -9,9 +9,9 @@ clear_marks-requires c =
 
 pub run_rows-end-requires : goal.run_rows-end-requires
 run_rows-end-requires c =
-    run_starts _ _ _ _ _ _ _ c.requires.0 _ c.start_text-w.ensures
+    run_starts _ _ _ _ _ _ _ c.requires.0 _ c.start_text.ensures
 
 pub returns : goal.returns
 returns c =
-    run_ends _ _ _ _ _ _ _ c.requires.0 _ _ c.start_text-w.ensures _ c.requires.1 _
-    c.clear_marks.ensures _ _ c.run_rows-end.ensures _ c.larger.ensures
+    run_ends _ _ _ _ _ _ _ c.requires.0 _ _ c.start_text.ensures _ c.requires.1 _
+    c.clear_marks.ensures _ _ c.run_rows-end.ensures _ c.max.ensures

@@ -1,22 +1,28 @@
-use Rattle.renderer.proofs.Leaves.{writes_as, render_parent, render_line, render_empty, render_space}
+use mathlib.Core.Path.{◌∙◌}
+use Rattle.renderer.proofs.Leaves.{writes_as, on_true, on_false, render_parent, render_line, render_empty, render_space}
 use Rattle.renderer.proofs.Writes.{writes_none}
 use Rattle.renderer.proofs.leaf.leaf.Goals as goal
 
-pub returns-then-l-eq-WRAP_PARENT : goal.returns-then-l-eq-WRAP_PARENT
-returns-then-l-eq-WRAP_PARENT c =
-    λ m. writes_as _ _ _ _ _ _ _ (render_parent m _ _ _ _ _ _ _ c.requires.1.1.0 c.if-l-eq-WRAP_PARENT.true) (writes_none _ _ _)
+pub returns-in-3 : goal.returns-in-3
+returns-in-3 c =
+    λ m. writes_as _ _ _ _ _ _ _ (render_parent m _ _ _ _ _ _ _ c.requires.1.1.0 c.in-3.is) (writes_none _ _ _)
 
-pub returns-then-l-eq-LINE : goal.returns-then-l-eq-LINE
-returns-then-l-eq-LINE c =
-    λ m. writes_as _ _ _ _ _ _ _ (render_line m _ _ _ _ _ _ _ c.requires.1.1.0 c.if-l-eq-LINE.true) c.line.ensures
+pub returns-then-l : goal.returns-then-l
+returns-then-l c =
+    λ m. writes_as _ _ _ _ _ _ _ (render_line m _ _ _ _ _ _ _ c.requires.1.1.0 c.in-7.is ∙ on_true _ _ _ c.if-l.true) c.new_line.ensures
 
-pub returns-then-l-eq-EMPTY_LINE : goal.returns-then-l-eq-EMPTY_LINE
-returns-then-l-eq-EMPTY_LINE c =
-    λ m. writes_as _ _ _ _ _ _ _ (render_empty m _ _ _ _ _ _ _ c.requires.1.1.0 c.if-l-eq-EMPTY_LINE.true) c.empty_line.ensures
+pub returns-else-l : goal.returns-else-l
+returns-else-l c =
+    λ m. writes_as _ _ _ _ _ _ _ (render_line m _ _ _ _ _ _ _ c.requires.1.1.0 c.in-7.is ∙ on_false _ _ _ c.if-l.false) (writes_none _ _ _)
 
-pub returns-then-l-eq-LINE_OR_SPACE : goal.returns-then-l-eq-LINE_OR_SPACE
-returns-then-l-eq-LINE_OR_SPACE c =
-    λ m. writes_as _ _ _ _ _ _ _ (render_space m _ _ _ _ _ _ _ c.requires.1.1.0 c.if-l-eq-LINE_OR_SPACE.true) c.line_or_space.ensures
+pub returns-in-8 : goal.returns-in-8
+returns-in-8 c =
+    λ m. writes_as _ _ _ _ _ _ _ (render_empty m _ _ _ _ _ _ _ c.requires.1.1.0 c.in-8.is) c.empty_line.ensures
 
-pub returns : goal.returns
-returns c = λ m. c.text_leaf.ensures m _
+pub returns-then-l-2 : goal.returns-then-l-2
+returns-then-l-2 c =
+    λ m. writes_as _ _ _ _ _ _ _ (render_space m _ _ _ _ _ _ _ c.requires.1.1.0 c.in-9.is ∙ on_true _ _ _ c.if-l-2.true) c.new_line-then-l-2.ensures
+
+pub returns-else-l-2 : goal.returns-else-l-2
+returns-else-l-2 c =
+    λ m. writes_as _ _ _ _ _ _ _ (render_space m _ _ _ _ _ _ _ c.requires.1.1.0 c.in-9.is ∙ on_false _ _ _ c.if-l-2.false) c.space.ensures

@@ -7,7 +7,7 @@ use Rattle.renderer.proofs.measure.wrapped_width.Given as goal
 
 abbrev pub invariant-loop-row : goal.invariant-loop-row
 invariant-loop-row l =
-    Open l.store l.marks l.from l.to l.ends l.depth l.row l.end l.sum.0 × (l.row < l.end → IsWrapped l.store l.marks l.row) × (l.sum.0 ≤ l.room.0)
+    Open l.store l.marks l.from l.to l.ends l.row l.end l.sum.0 × (l.row < l.end → IsWrapped l.store l.marks l.row) × (l.sum.0 ≤ l.room.0)
 
 abbrev pub decreases-loop-row : goal.decreases-loop-row
 decreases-loop-row l = l.to - l.row

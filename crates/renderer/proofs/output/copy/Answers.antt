@@ -1,15 +1,9 @@
-use mathlib.Core.Path.{◌∙◌}
-use Rattle.renderer.proofs.Written.{text_count, text_below}
+use mathlib.Core.Path.{sym}
+use Rattle.renderer.proofs.Written.{part_written, over_past}
 use Rattle.renderer.proofs.output.copy.Goals as goal
 
-pub returns : goal.returns
-returns c = (
-  c.put_origin.ensures
-      ∙ text_below c.args.limit.0 c.args.out.now c.args.at c.args.source.now
-      c.args.image.now c.args.t.origin c.args.t.start c.args.t.size.0 _ _ c.requires
-      (text_count c.args.source.now c.args.image.now c.args.t.origin c.args.t.start
-      c.args.t.size.0 _ _ c.origin_size.ensures c.clipped-n.ensures)
-      c.clipped.ensures,
-  (text_count c.args.source.now c.args.image.now c.args.t.origin c.args.t.start
-      c.args.t.size.0 _ _ c.origin_size.ensures c.clipped-n.ensures),
-)
+pub returns-then-at-out : goal.returns-then-at-out
+returns-then-at-out c = part_written _ _ _ _ _ c.if-at-out.true c.min-room.ensures c.copy_from_slice.ensures.after
+
+pub returns-else-at-out : goal.returns-else-at-out
+returns-else-at-out c = sym (over_past _ _ _ _ c.if-at-out.false)

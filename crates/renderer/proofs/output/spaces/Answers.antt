@@ -1,8 +1,9 @@
-use mathlib.Core.Path.{◌∙◌}
-use Rattle.renderer.proofs.Written.{blanks_below}
+use mathlib.Core.Path.{sym}
+use Rattle.renderer.proofs.Written.{blanks_written, over_past}
 use Rattle.renderer.proofs.output.spaces.Goals as goal
 
-pub returns : goal.returns
-returns c =
-    c.put_blanks.ensures
-    ∙ blanks_below c.args.limit.0 c.args.out.now c.args.at c.args.n.0 _ c.requires c.clipped.ensures
+pub returns-then-at-out : goal.returns-then-at-out
+returns-then-at-out c = blanks_written _ _ _ _ _ c.if-at-out.true c.min-room.ensures (c.fill.ensures.after (λ y h. h))
+
+pub returns-else-at-out : goal.returns-else-at-out
+returns-else-at-out c = sym (over_past _ _ _ _ c.if-at-out.false)

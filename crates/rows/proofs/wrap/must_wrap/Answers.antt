@@ -1,35 +1,15 @@
-use native.Mathlib.Omega.{arith}
-use mathlib.Core.Path.{refl}
 use mathlib.Core.Logic.{inl, inr}
 use Rattle.rows.proofs.MustWrap.{must_done, must_found, must_in, must_over, must_less}
 use Rattle.rows.proofs.wrap.must_wrap.Goals as goal
 
-pub loop-row-init : goal.loop-row-init
-loop-row-init c = record { good = c.requires.nests; same = refl }
-
-pub place-kind-requires : goal.place-kind-requires
-place-kind-requires c = omega (arith, c.requires.room)
-
 pub returns-then-kind-eq-WRAP_PARENT : goal.returns-then-kind-eq-WRAP_PARENT
 returns-then-kind-eq-WRAP_PARENT c =
-    must_found _ _ _ _ c.loop-row.invariant _ c.loop-row-test.true c.place-kind.ensures.0 (inl c.if-kind-eq-WRAP_PARENT.true)
-
-pub returns-then-kind-eq-COMMENT : goal.returns-then-kind-eq-COMMENT
-returns-then-kind-eq-COMMENT c =
-    must_found _ _ _ _ c.loop-row.invariant _ c.loop-row-test.true c.place-kind.ensures.0 (inr c.if-kind-eq-COMMENT.true)
-
-pub overflow_add-row : goal.overflow_add-row
-overflow_add-row c = omega arith
-
-pub loop-row-smaller-then-kind-eq-INDENT : goal.loop-row-smaller-then-kind-eq-INDENT
-loop-row-smaller-then-kind-eq-INDENT c = omega arith
+    must_found _ _ _ _ c.loop-row.invariant _ c.loop-row-test.true c.place-kind.ensures.0
+    (elim c.then-kind-eq-WRAP_PARENT.either [ inl e ↦ inl e | inr f ↦ inr f.1 ])
 
 pub loop-row-preserved-then-kind-eq-INDENT : goal.loop-row-preserved-then-kind-eq-INDENT
 loop-row-preserved-then-kind-eq-INDENT c =
     must_in _ _ _ _ c.loop-row.invariant _ c.loop-row-test.true c.place-kind.ensures.0 c.if-kind-eq-INDENT.true
-
-pub place-row-requires : goal.place-row-requires
-place-row-requires c = omega (arith, c.requires.room)
 
 pub loop-row-smaller : goal.loop-row-smaller
 loop-row-smaller c =

@@ -1,17 +1,17 @@
+use mathlib.Core.Path.{refl, ap, ◌∙◌}
+use Rattle.stored_answers.specs.declared.numbers.Reader.{Reader}
 use Rattle.stored_answers.proofs.Listing.{filling_start, filling_more, filling_end}
-use native.Mathlib.Omega.{arith}
 use Rattle.stored_answers.proofs.compare.fill.Goals as goal
 
 pub loop-i-init : goal.loop-i-init
-loop-i-init c = filling_start _ _ _ _
-
-pub bounds-b-i : goal.bounds-b-i
-bounds-b-i c = omega (arith, c.loop-i.invariant.size, c.loop-i-test.true)
+loop-i-init g c = (refl, filling_start _ _ _ _)
 
 pub loop-i-preserved : goal.loop-i-preserved
-loop-i-preserved c =
-    filling_more _ _ _ _ _ _ _ _ _ c.loop-i.invariant (omega (arith, c.loop-i.invariant.size, c.loop-i-test.true))
-    c.long.ensures.0 c.past-here.ensures
+loop-i-preserved g c = (
+  ap (λ (r : Reader). r.answers) c.read.ensures.goes ∙ c.loop-i.invariant.0,
+  filling_more _ _ _ _ _ _ _ _ _ c.loop-i.invariant.1 c.loop-i-test.true (rw c.loop-i.invariant.0 at c.read.ensures.value)
+      (ap (λ (r : Reader). r.place) c.read.ensures.goes),
+)
 
 pub returns : goal.returns
-returns c = filling_end _ _ _ _ _ _ _ c.loop-i.invariant (omega (arith, c.loop-i.invariant.size, c.loop-i-test.false))
+returns g c = filling_end _ _ _ _ _ _ _ c.loop-i.invariant.1 c.loop-i-test.false

@@ -52,24 +52,15 @@ told g p q = rw (p, q) g
 pub loop-at-init : goal.loop-at-init
 loop-at-init c = record { low = omega arith; high = c.requires.0; few = omega arith; many = omega arith; last = refl }
 
-pub bounds-s-at : goal.bounds-s-at
-bounds-s-at c = omega (arith, c.loop-at-test.true, c.requires.1)
-
 pub overflow_add-count : goal.overflow_add-count
-overflow_add-count c = omega (arith, c.loop-at.invariant.few, c.loop-at.invariant.low, c.loop-at-test.true)
-
-pub overflow_add-at : goal.overflow_add-at
-overflow_add-at c = omega (arith, c.loop-at-test.true)
-
-pub loop-at-smaller : goal.loop-at-smaller
-loop-at-smaller c = omega (arith, c.loop-at-test.true)
+overflow_add-count c = omega (arith, c.loop-at.invariant.few)
 
 pub loop-at-preserved : goal.loop-at-preserved
 loop-at-preserved c =
     elim c.if-s-at-eq10.branch [
-      | then-s-at-eq10 w ↦ told (going_on c.loop-at.invariant c.loop-at-test.true w.if-s-at-eq10.true) w.count-is w.place-is
-      | else-s-at-eq10 w ↦ told (going_past c.loop-at.invariant c.loop-at-test.true w.if-s-at-eq10.false) w.count-is w.place-is
+      | then-s-at-eq10 w ↦ told (going_on c.loop-at.invariant (omega arith) w.if-s-at-eq10.true) w.count-is w.place-is
+      | else-s-at-eq10 w ↦ told (going_past c.loop-at.invariant (omega arith) w.if-s-at-eq10.false) w.count-is w.place-is
     ]
 
 pub returns : goal.returns
-returns c = going_ends c.loop-at.invariant c.loop-at-test.false
+returns c = going_ends c.loop-at.invariant (omega arith)

@@ -15,6 +15,3 @@ pub record Going (s : List ℕ) (from to at count place : ℕ) : Type 0 where
 
 abbrev pub invariant-loop-at : goal.invariant-loop-at
 invariant-loop-at l = Going l.s l.from l.to l.at l.count l.place
-
-abbrev pub decreases-loop-at : goal.decreases-loop-at
-decreases-loop-at l = l.to - l.at

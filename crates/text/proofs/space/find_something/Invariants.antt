@@ -4,8 +4,8 @@ use lib.ListN.{length}
 use Rattle.text.proofs.Walks.{Seeking}
 use Rattle.text.proofs.space.find_something.Given as goal
 
-abbrev pub invariant-loop-here : goal.invariant-loop-here
-invariant-loop-here l = Seeking l.s l.at l.here
+abbrev pub invariant-loop-c : goal.invariant-loop-c
+invariant-loop-c l = Seeking l.s l.at l.here
 
-abbrev pub decreases-loop-here : goal.decreases-loop-here
-decreases-loop-here l = length l.s - l.here
+abbrev pub decreases-loop-c : goal.decreases-loop-c
+decreases-loop-c l = length l.s - l.here

@@ -1,38 +1,30 @@
 use mathlib.Core.Path.{sym, ◌∙◌}
 use native.Mathlib.Omega.{arith}
-use Rattle.text.proofs.Characters.{before_inside, before_empty}
+use Rattle.text.proofs.Characters.{before_inside}
 use Rattle.text.proofs.Walks.{trim_start, trim_next, trim_nothing, trim_text}
 use Rattle.text.proofs.space.trim_end.Goals as goal
 
-pub loop-end-init : goal.loop-end-init
-loop-end-init c = trim_start _ _ _
-
-pub returns-in-Nothing : goal.returns-in-Nothing
-returns-in-Nothing c = trim_nothing _ _ _ _ (sym c.char_before.ensures ∙ c.in-Nothing.is) c.loop-end.invariant
-
-pub returns-then-not-is_whitespace : goal.returns-then-not-is_whitespace
-returns-then-not-is_whitespace c =
-    trim_text _ _ _ _ _ _ (sym c.char_before.ensures ∙ c.in-Char.is)
-    (sym c.is_whitespace.ensures ∙ c.if-not-is_whitespace.true) c.loop-end.invariant
+pub loop-last-init : goal.loop-last-init
+loop-last-init c = trim_start _ _ _
 
 pub overflow_sub-end : goal.overflow_sub-end
 overflow_sub-end c =
-    let inside =
-    before_inside c.args.s.now c.args.from c.loop-end.end _ _ (sym c.char_before.ensures ∙ c.in-Char.is)
-    in
-    omega arith
+    let inside = before_inside c.args.s.now c.args.from c.loop-last.end c.in-Some.last (sym c.char_before.ensures ∙ c.in-Some.is) in omega arith
 
-pub loop-end-smaller : goal.loop-end-smaller
-loop-end-smaller c =
-    let inside =
-    before_inside c.args.s.now c.args.from c.loop-end.end _ _ (sym c.char_before.ensures ∙ c.in-Char.is)
-    in
-    omega arith
+pub loop-last-smaller : goal.loop-last-smaller
+loop-last-smaller c =
+    let inside = before_inside c.args.s.now c.args.from c.loop-last.end c.in-Some.last (sym c.char_before.ensures ∙ c.in-Some.is) in omega arith
 
-pub loop-end-preserved : goal.loop-end-preserved
-loop-end-preserved c =
-    trim_next _ _ _ _ _ _ c.loop-end-test.true (sym c.char_before.ensures ∙ c.in-Char.is)
-    (sym c.is_whitespace.ensures ∙ c.if-not-is_whitespace.false) c.loop-end.invariant
+pub loop-last-preserved : goal.loop-last-preserved
+loop-last-preserved c =
+    let e = sym c.char_before.ensures ∙ c.in-Some.is in
+    let inside = before_inside c.args.s.now c.args.from c.loop-last.end c.in-Some.last e in
+    trim_next _ _ _ _ c.in-Some.last (omega arith) e (sym c.is_whitespace.ensures ∙ c.if-not-is_whitespace.false) c.loop-last.invariant
 
-pub returns : goal.returns
-returns c = trim_nothing _ _ _ _ (before_empty _ _ _ c.loop-end-test.false) c.loop-end.invariant
+pub returns-then-not-is_whitespace : goal.returns-then-not-is_whitespace
+returns-then-not-is_whitespace c =
+    trim_text _ _ _ _ c.in-Some.last (sym c.char_before.ensures ∙ c.in-Some.is)
+    (sym c.is_whitespace.ensures ∙ c.if-not-is_whitespace.true) c.loop-last.invariant
+
+pub returns-in_default : goal.returns-in_default
+returns-in_default c = trim_nothing _ _ _ _ (sym c.char_before.ensures ∙ c.in_default.is) c.loop-last.invariant

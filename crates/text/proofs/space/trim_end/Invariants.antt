@@ -3,8 +3,8 @@ use Prim.Native.Nat.{◌-◌}
 use Rattle.text.proofs.Walks.{Trimming}
 use Rattle.text.proofs.space.trim_end.Given as goal
 
-abbrev pub invariant-loop-end : goal.invariant-loop-end
-invariant-loop-end l = Trimming l.s l.from l.to l.end
+abbrev pub invariant-loop-last : goal.invariant-loop-last
+invariant-loop-last l = Trimming l.s l.from l.to l.end
 
-abbrev pub decreases-loop-end : goal.decreases-loop-end
-decreases-loop-end l = l.end - l.from
+abbrev pub decreases-loop-last : goal.decreases-loop-last
+decreases-loop-last l = l.end - l.from

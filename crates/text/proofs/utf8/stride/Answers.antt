@@ -1,13 +1,17 @@
-use mathlib.Core.Path.{sym, ◌∙◌}
+use mathlib.Core.Path.{refl, sym, ap, ◌∙◌}
+use Rattle.text.specs.Utf8.{some_bytes}
 use Rattle.text.proofs.Runs.{stride_odd, stride_plain, stride_one}
 use Rattle.text.proofs.utf8.stride.Goals as goal
-
-pub returns-then-at-ne0 : goal.returns-then-at-ne0
-returns-then-at-ne0 c = stride_odd _ _ _ c.if-at-ne0.true c.sequence.ensures
+use Rattle.text.proofs.utf8.stride.Goals.{else-at-eq0-via-then-at-eq0+else-is_plain, else-at-eq0-via-else-at-eq0}
 
 pub returns-then-is_plain : goal.returns-then-is_plain
-returns-then-is_plain c = stride_plain _ _ c.if-at-ne0.false (sym c.is_plain.ensures ∙ c.if-is_plain.true)
+returns-then-is_plain c = ap some_bytes (stride_plain _ _ c.if-at-eq0.true (sym c.is_plain.ensures ∙ c.if-is_plain.true))
 
 pub returns : goal.returns
 returns c =
-    stride_one _ _ _ c.if-at-ne0.false (sym c.is_plain.ensures ∙ c.if-is_plain.false) c.sequence-2.ensures
+    c.sequence.ensures
+    ∙ elim c.else-at-eq0.branch [
+      | else-at-eq0-via-then-at-eq0+else-is_plain w ↦
+          ap some_bytes (stride_one _ _ _ w.if-at-eq0.true (sym w.is_plain.ensures ∙ w.if-is_plain.false) refl)
+      | else-at-eq0-via-else-at-eq0 w ↦ ap some_bytes (stride_odd _ _ _ w.if-at-eq0.false refl)
+    ]

@@ -6,13 +6,13 @@ use Rattle.writer.proofs.Listed.{Rows}
 use Rattle.writer.proofs.list.+listing.Given as goal
 
 abbrev pub decreases-list_tree : goal.decreases-list_tree
-decreases-list_tree l = 2 * (length l.b.now - l.at)
+decreases-list_tree l = 2 * (length l.image.now - l.at)
 
 abbrev pub decreases-list_trees : goal.decreases-list_trees
-decreases-list_trees l = 2 * (length l.b.now - l.first) + 1
+decreases-list_trees l = 2 * (length l.image.now - l.first) + 1
 
 abbrev pub invariant-list_trees-loop-at : goal.invariant-list_trees-loop-at
-invariant-list_trees-loop-at l = Rows l.b l.first l.stop l.start l.initial.out l.at l.pos l.out
+invariant-list_trees-loop-at l = Rows l.image l.first l.stop l.start l.initial.out l.at l.pos l.out
 
 abbrev pub decreases-list_trees-loop-at : goal.decreases-list_trees-loop-at
 decreases-list_trees-loop-at l = l.stop - l.at

@@ -6,101 +6,26 @@ use Rattle.image.specs.Grammar.{has_byte}
 use Rattle.writer.proofs.Standing.{text_payload, byte_payload, no_payload, payload_byte_inside}
 use Rattle.writer.proofs.list.list_payload.Goals as goal
 
-pub copy-requires : goal.copy-requires
-copy-requires c = (
-  omega arith,
-  (
-    omega (
-      arith,
-      c.num32.ensures.same,
-      c.requires.whole.width (sym c.wide-kind.ensures.0 ∙ c.if-kind-eq-TEXT.true),
-      c.requires.whole.inside,
-      c.requires.short,
-      c.requires.below,
-    ),
-    omega (
-      arith,
-      c.num32.ensures.same,
-      c.requires.whole.width (sym c.wide-kind.ensures.0 ∙ c.if-kind-eq-TEXT.true),
-      c.requires.whole.inside,
-      c.requires.short,
-      c.requires.below,
-    ),
-  ),
-)
-
-pub overflow_sub-stop : goal.overflow_sub-stop
-overflow_sub-stop c =
-    omega (
-      arith,
-      c.num32.ensures.same,
-      c.requires.whole.width (sym c.wide-kind.ensures.0 ∙ c.if-kind-eq-TEXT.true),
-      c.requires.whole.inside,
-      c.requires.short,
-      c.requires.below,
-    )
-
-pub copy-requires-then-kind-eq-TEXT : goal.copy-requires-then-kind-eq-TEXT
-copy-requires-then-kind-eq-TEXT c = (
-  omega (
-    arith,
-    c.num32.ensures.same,
-    c.requires.whole.width (sym c.wide-kind.ensures.0 ∙ c.if-kind-eq-TEXT.true),
-    c.requires.whole.inside,
-    c.requires.short,
-    c.requires.below,
-  ),
-  (
-    omega (
-      arith,
-      c.num32.ensures.same,
-      c.requires.whole.width (sym c.wide-kind.ensures.0 ∙ c.if-kind-eq-TEXT.true),
-      c.requires.whole.inside,
-      c.requires.short,
-      c.requires.below,
-    ),
-    omega (
-      arith,
-      c.num32.ensures.same,
-      c.requires.whole.width (sym c.wide-kind.ensures.0 ∙ c.if-kind-eq-TEXT.true),
-      c.requires.whole.inside,
-      c.requires.short,
-      c.requires.below,
-    ),
-  ),
-)
-
-pub overflow_sub-result : goal.overflow_sub-result
-overflow_sub-result c =
-    omega (
-      arith,
-      c.num32.ensures.same,
-      c.requires.whole.width (sym c.wide-kind.ensures.0 ∙ c.if-kind-eq-TEXT.true),
-      c.requires.whole.inside,
-      c.requires.short,
-      c.requires.below,
-    )
-
 pub returns-then-kind-eq-TEXT : goal.returns-then-kind-eq-TEXT
 returns-then-kind-eq-TEXT c =
-    text_payload c.args.b.now _ (λ i. omega (arith, c.shared_slice_known-2-1.given i)) c.requires.whole _ _ _ _ _
-    _ _ (sym c.wide-kind.ensures.0 ∙ c.if-kind-eq-TEXT.true) (ap (λ (m : ℕ). c.args.at + 4 + m) c.num32.ensures.same)
+    text_payload c.args.image.now _ (λ i. omega (arith, c.shared_slice_known-2-1.given i)) c.requires.whole _ _ _ _ _
+    _ _ (sym c.from-kind.ensures ∙ c.if-kind-eq-TEXT.true) (ap (λ (m : ℕ). c.args.at + 4 + m) c.num32.ensures.same)
     c.requires.short c.put.ensures c.copy.ensures c.put32.ensures c.copy-then-kind-eq-TEXT.ensures
-
-pub bounds-b-at-then-has_byte : goal.bounds-b-at-then-has_byte
-bounds-b-at-then-has_byte c =
-    payload_byte_inside c.args.b.now _ c.requires.whole (λ k. c.if-kind-eq-TEXT.false (c.wide-kind.ensures.0 ∙ k))
-    (ap has_byte (sym c.wide-kind.ensures.0) ∙ sym c.has_byte.ensures ∙ c.if-has_byte.true)
 
 pub returns-then-has_byte : goal.returns-then-has_byte
 returns-then-has_byte c =
-    byte_payload c.args.b.now _ (λ i. omega (arith, c.shared_slice_known-2-1.given i))
-    c.requires.whole _ _ _ _ (λ k. c.if-kind-eq-TEXT.false (c.wide-kind.ensures.0 ∙ k))
-    (ap has_byte (sym c.wide-kind.ensures.0) ∙ sym c.has_byte.ensures ∙ c.if-has_byte.true)
+    byte_payload c.args.image.now _ (λ i. omega (arith, c.shared_slice_known-2-1.given i))
+    c.requires.whole _ _ _ _ (λ k. c.if-kind-eq-TEXT.false (c.from-kind.ensures ∙ k))
+    (ap has_byte (sym c.from-kind.ensures) ∙ sym c.has_byte.ensures ∙ c.if-has_byte.true)
     c.put-then-has_byte.ensures c.put-then-has_byte-2.ensures
 
 pub returns : goal.returns
 returns c =
-    no_payload c.args.b.now _ (λ i. omega (arith, c.shared_slice_known-2-1.given i))
-    c.requires.whole _ _ (λ k. c.if-kind-eq-TEXT.false (c.wide-kind.ensures.0 ∙ k))
-    (ap has_byte (sym c.wide-kind.ensures.0) ∙ sym c.has_byte.ensures ∙ c.if-has_byte.false)
+    no_payload c.args.image.now _ (λ i. omega (arith, c.shared_slice_known-2-1.given i))
+    c.requires.whole _ _ (λ k. c.if-kind-eq-TEXT.false (c.from-kind.ensures ∙ k))
+    (ap has_byte (sym c.from-kind.ensures) ∙ sym c.has_byte.ensures ∙ c.if-has_byte.false)
+
+pub bounds-image-at-then-has_byte : goal.bounds-image-at-then-has_byte
+bounds-image-at-then-has_byte c =
+    payload_byte_inside c.args.image.now _ c.requires.whole (λ k. c.if-kind-eq-TEXT.false (c.from-kind.ensures ∙ k))
+    (ap has_byte (sym c.from-kind.ensures) ∙ sym c.has_byte.ensures ∙ c.if-has_byte.true)

@@ -1,10 +1,10 @@
--- What is put is the part up to `at`, and the rest is ahead.
-use Prim.Native.Nat.{◌-◌}
-use Rattle.writer.proofs.Stores.{Copying}
+-- What is put so far, with the rest behind it, is all.
+-- Assumes nothing.
+use mathlib.Core.Path.{◌≡◌}
+use Prim.Native.Nat.{◌+◌}
+use lib.ListN.{drop}
+use lib.Seq.{sets}
 use Rattle.writer.proofs.output.copy.Given as goal
 
-abbrev pub invariant-loop-at : goal.invariant-loop-at
-invariant-loop-at l = Copying l.x l.from l.to l.initial.out l.pos l.out l.at
-
-abbrev pub decreases-loop-at : goal.decreases-loop-at
-decreases-loop-at l = l.to - l.at
+abbrev pub invariant-loop-i : goal.invariant-loop-i
+invariant-loop-i l = sets l.out (l.pos + l.i) (drop l.i l.x) ≡ sets l.initial.out l.pos l.x

@@ -1,20 +1,12 @@
 -- The tests are those of the definition, in its order.
 use mathlib.Core.Path.{sym, ap, ap₂, ◌∙◌}
-use native.Mathlib.Omega.{arith}
 use lib.Dec.{ltb}
 use Rattle.writer.specs.Steps.{taken}
-use Rattle.writer.proofs.Seen.{stood}
 use Rattle.writer.proofs.Commented.{pair_not, pair_order}
 use Rattle.writer.proofs.pairs.pair_fits.Goals as goal
 
 pub returns-then-not-stands : goal.returns-then-not-stands
 returns-then-not-stands c = sym (ap taken (pair_not _ _ (sym c.stands.ensures ∙ c.if-not-stands.true)))
-
-pub num32-requires : goal.num32-requires
-num32-requires c = omega (arith, (stood _ _ _ _ (sym c.stands.ensures ∙ c.if-not-stands.false)).0)
-
-pub num32-requires-2 : goal.num32-requires-2
-num32-requires-2 c = omega (arith, (stood _ _ _ _ (sym c.stands.ensures ∙ c.if-not-stands.false)).0)
 
 pub returns : goal.returns
 returns c =

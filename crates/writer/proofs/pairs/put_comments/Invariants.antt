@@ -10,7 +10,7 @@ use Rattle.writer.proofs.pairs.put_comments.Given as goal
 
 abbrev pub invariant-loop-start : goal.invariant-loop-start
 invariant-loop-start l =
-    Listing l.l (put_by pair_bytes l.start l.initial.out (comments_from l.l MAX_COMMENTS 0)) (length l.initial.out) l.left l.at l.pos l.out
+    Listing l.steps (put_by pair_bytes l.start l.initial.out (comments_from l.steps MAX_COMMENTS 0)) (length l.initial.out) l.left l.at l.pos l.out
 
 abbrev pub decreases-loop-start : goal.decreases-loop-start
-decreases-loop-start l = length l.l - l.at
+decreases-loop-start l = length l.steps - l.at

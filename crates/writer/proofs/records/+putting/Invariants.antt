@@ -20,7 +20,7 @@ decreases-put_record l = 3 * l.left
 
 abbrev pub invariant-put_children-loop-end : goal.invariant-put_children-loop-end
 invariant-put_children-loop-end l =
-    Going (record_from l.l l.left) l.l (put_by writtens l.start l.initial.out (children_from (record_from l.l l.left) l.l (suc (length l.l)) l.places l.first)) (length l.initial.out) l.row l.at l.pos l.out
+    Going (record_from l.steps l.left) l.steps (put_by writtens l.start l.initial.out (children_from (record_from l.steps l.left) l.steps (suc (length l.steps)) l.places l.first)) (length l.initial.out) l.row l.at l.pos l.out
 
 abbrev pub decreases-put_children-loop-end : goal.decreases-put_children-loop-end
-decreases-put_children-loop-end l = length l.l - l.at
+decreases-put_children-loop-end l = length l.steps - l.at

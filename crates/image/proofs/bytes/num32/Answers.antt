@@ -1,9 +1,0 @@
--- A byte is below 256, so no product or sum wraps, and the result is the definition written out.
--- Assumes nothing.
-use native.Mathlib.Omega.{arith}
-use Rattle.image.specs.Bytes.{be32}
-use Rattle.image.proofs.bytes.num32.Goals as goal
-
-pub returns : goal.returns
-unfolding be32
-returns c = record { same = omega arith; small = omega arith }

@@ -1,0 +1,65 @@
+-- Lists whose elements are laid by a closure: a closure that lays a part of the syntax tree wherever it stands lays each element of a list.
+-- Assumes nothing.
+use mathlib.Core.Path.{sym, subst}
+use mathlib.Core.List.{List, [], ◌∷◌}
+use Prim.Native.Nat.{ℕ, ◌+◌, ◌≤◌}
+use native.Mathlib.Omega.{arith}
+use denote.Ref.{MutBor}
+use Rattle.std.specs.Fn.{Shared}
+use Rattle.image.specs.Read.{stop_at}
+use Rattle.acts.specs.Act.{Given, Act}
+use Rattle.acts.specs.Laid.{Room, Laid}
+use Rattle.acts.specs.declared.Cursor.{Cursor}
+use Rattle.layout.specs.declared.forms.ListForm.{ListForm}
+use Rattle.layout.specs.Layout.{Elem}
+use Rattle.layout.specs.Promises.{Readable, Has, LaidAs}
+use Rattle.layout.specs.Elems.{Is, Laying, ElemsAt, ListOf, HasList, LaidList}
+use Rattle.layout.proofs.Lays.{LaysList, lays_list}
+
+module _ (P Q : List ℕ → List ℕ → Elem → ℕ → Type 0) {s b : List ℕ} where
+  elems_by : (low to : ℕ) → ((e : Elem) (p : ℕ) → low ≤ p → stop_at b p ≤ to → P s b e p → Q s b e p)
+      → (es : List Elem) (at : ℕ) → low ≤ at → ElemsAt P s b es at to → ElemsAt Q s b es at to
+  unfolding ElemsAt
+  elems_by low to f [] at h a = a
+  elems_by low to f (e ∷ es) at h a = (
+    record { start = a.0.start; long = a.0.long; item = f e at h a.1.least a.0.item },
+    a.1,
+    elems_by low to f es (stop_at b at) (omega arith) a.2,
+  )
+
+  module _ {at : ℕ} (f : (e : Elem) (p : ℕ) → at + 13 ≤ p → stop_at b p ≤ stop_at b at → P s b e p → Q s b e p) where
+    list_by : {es : List Elem} → ListOf P s b es at → ListOf Q s b es at
+    list_by {es} a =
+        record { long = a.long; fits = a.fits; elems = elems_by (at + 13) (stop_at b at) f es (at + 13) (omega arith) a.elems }
+
+    has_by : {form : ListForm} {end : ℕ} {c : Cursor} → HasList P form end s b at c → HasList Q form end s b at c
+    has_by h = record { accepted = h.accepted; tree = h.tree; held = list_by h.held; span = h.span; ended = h.ended; room = h.room }
+
+    lays_by : {form : ListForm} {end : ℕ} {x y : List ℕ} {c d : Cursor} → LaysList Q form end s b at x c y d
+        → LaysList P form end s b at x c y d
+    lays_by l = record { of = λ es a. l.of es (list_by a) }
+
+-- a closure that lays the parts of a list, each wherever it stands within the list's record
+module _ {T : Type 0} (R : List ℕ → List ℕ → T → ℕ → Type 0) (rule : Given → T → Act) {s b : List ℕ} (at : ℕ)
+    {F : Type 0} {g : Shared F (MutBor (List ℕ) × (Cursor × (ℕ × Unit {0}))) (Cursor × (MutBor (List ℕ) × Unit {0}))} {f : F}
+    (takes :
+    (p : ℕ) → at + 13 ≤ p → stop_at b p ≤ stop_at b at
+    → (x : MutBor (List ℕ)) (c : Cursor) → Has R rule s b p c → g.pre f (x, (c, (p, tt))))
+    (lays :
+    (p : ℕ) (x y : MutBor (List ℕ)) (c d : Cursor)
+    → g.post f (x, (c, (p, tt))) (d, (y, tt)) → LaidAs R rule s b p x.now c y.now d) where
+  laying : Readable s b → (e : Elem) (p : ℕ) → at + 13 ≤ p → stop_at b p ≤ stop_at b at → Is R rule s b e p → Laying g f s b e p
+  laying k e p low high i =
+      let has : (c : Cursor) → Room e.act c → Has R rule s b p c =
+      λ c room. record { accepted = k; tree = i.tree; held = i.held; room = subst (λ (r : Act). Room r c) (sym i.same) room } in
+      record {
+        takes = λ x c room. takes p low high x c (has c room);
+        lays = λ x y c d room r. subst (λ (a : Act). Laid a x.now c y.now d) i.same ((lays p x y c d r).of (has c room));
+      }
+
+  pub has_each : {form : ListForm} {end : ℕ} {c : Cursor} → HasList (Is R rule) form end s b at c → HasList (Laying g f) form end s b at c
+  has_each h = has_by (Is R rule) (Laying g f) (laying h.accepted) h
+
+  pub lays_each : Readable s b → {form : ListForm} {end : ℕ} {x y : List ℕ} {c d : Cursor} → LaidList (Laying g f) form end s b at x c y d
+      → LaysList (Is R rule) form end s b at x c y d
+  lays_each k l = lays_by (Is R rule) (Laying g f) (laying k) (lays_list k l)

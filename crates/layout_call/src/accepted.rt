@@ -1,0 +1,29 @@
+// A source and an image that are accepted, with what the reader tells of them.
+ghost use Rattle.image.specs.Read.{Accepts};
+
+use image::Document;
+use refusals::Refused;
+
+/// A source and an image that the reader accepts: it holds no others.
+#[derive(Clone, Copy)]
+pub struct Accepted<'a> {
+    pub source: &'a [u8],
+    pub image: &'a [u8],
+    pub doc: Document,
+    pub ghost accepts: { Accepts source.now image.now doc },
+}
+
+impl<'a> Accepted<'a> {
+    ghost use Rattle.std.specs.Prelude.{◌≡◌, IfOk};
+    ghost use Rattle.image.specs.Read.{read_all, outcome};
+    ghost use Rattle.refusals.specs.Reasons.{answer_of};
+
+    /// Accepts a source and an image, or refuses them.
+    pub fn check(source: &'a [u8], image: &'a [u8]) -> Result<Accepted<'a>, Refused>
+        ensures answer { answer_of (λ a. a.doc) result ≡ outcome (read_all source.now image.now) }
+        ensures same { IfOk result (λ a. (a.source.now ≡ source.now) × (a.image.now ≡ image.now)) }
+    {
+        let doc = image::check(source, image)?;
+        Ok(Accepted { source, image, doc })
+    }
+}

@@ -1,6 +1,0 @@
-use lib.ListN.{length-take}
-use native.Mathlib.Omega.{arith}
-use Rattle.replay_calls.proofs.cases.text_found.Goals as goal
-
-pub slice_bounds-bytes_found-end : goal.slice_bounds-bytes_found-end
-slice_bounds-bytes_found-end c = simp length-take (omega arith)
