@@ -1,6 +1,6 @@
 // What a replay found, as lines: a case that differs, how often each answer was given, and the end. What can't be
 // written is passed over.
-ghost use Rattle.std.specs.Prelude.{◌≡◌, ◌≤◌, set, get_or};
+ghost use Rattle.std.specs.Prelude.{◌≡◌, ◌≤◌, ◌<◌, length, set, get_or};
 ghost use Rattle.stored_answers.specs.Numbers.{onward};
 ghost use Rattle.stored_answers.specs.Differences.{differs, total, all_same, number_in};
 
@@ -36,6 +36,9 @@ pub fn replay<P: Print, F: FnMut(&mut Reader) -> Result<(), Difference>>(
     mut case: F,
 ) -> Compared
     requires { F.IsAlwaysCallable case }
+    ensures none_passed { 0 < length answers.now → 0 < result.cases }
+    ensures each_goes_on { result.cases ≤ length answers.now }
+    ensures differ { result.differ ≤ result.cases }
 {
     let mut reader = Reader { answers, place: 0 };
     let mut cases = 0;
