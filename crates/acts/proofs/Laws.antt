@@ -164,12 +164,12 @@ pub room_leaf : (n : Node) {c : Cursor} → size n ≡ 1 → Room (push n) c →
 unfolding sizes
 room_leaf n one room = omega (arith, one, room.rows_fit)
 
-pub laid_leaf : (n : Node) {kind w : ℕ} {t : Text} {s s' : List ℕ} {c c' : Cursor}
-    → size n ≡ 1 → rows_of n c.row ≡ row kind 0 0 0 (c.row + 1) t w → Written kind 0 0 t w s c s' c' → Laid (push n) s c s' c'
+pub laid_leaf : (x : Node) {kind n k w : ℕ} {t : Text} {s s' : List ℕ} {c c' : Cursor}
+    → size x ≡ 1 → rows_of x c.row ≡ row kind n k 0 (c.row + 1) t w → Written kind n k t w s c s' c' → Laid (push x) s c s' c'
 unfolding sizes rows
-laid_leaf n {kind} {w} {t} {s} {s'} {c} one same p =
+laid_leaf x {kind} {n} {k} {w} {t} {s} {s'} {c} one same p =
     record {
-      stored = p.stored ∙ ap (λ (l : List ℕ). sets s (9 * c.row) l) (sym same ∙ sym (append-nil (rows_of n c.row)));
+      stored = p.stored ∙ ap (λ (l : List ℕ). sets s (9 * c.row) l) (sym same ∙ sym (append-nil (rows_of x c.row)));
       moved = p.moved ∙ ap₂ (λ (x y : ℕ). cursor x y c.pos c.placed) (omega (arith, one)) (omega arith);
     }
 

@@ -5,7 +5,7 @@ use Rattle.rows.specs.Places.{PLACES}
 use Rattle.rows.specs.Node.{Text}
 use Rattle.rows.specs.Rows.{sizes, row, rows, no_text}
 use Rattle.acts.specs.Act.{St, Out, Act, Asking, step_alone}
-use Rattle.acts.specs.Kinds.{number_of}
+use Rattle.rows.specs.Kinds.{number_of}
 use Rattle.acts.specs.declared.Cursor.{Cursor}
 use Rattle.acts.specs.declared.store.Row.{Row}
 
@@ -49,9 +49,12 @@ pub record LaidAsking {A : Type 0} (a : Asking A) (s : List ℕ) (c : Cursor) (s
   pub laid : Laid (step_alone a) s c s' c'
   pub answers : r ≡ (a (st c)).1
 
--- the nine places of a row as it is written at first
+-- the nine places of a row as it is written at first, where the row `next` comes after it
+abbrev pub cells_at : ℕ → Row → List ℕ
+cells_at next r = row (number_of r.kind) r.number r.second_number 0 next (text r.origin r.start r.size) r.width
+
 abbrev pub cells_of : Row → List ℕ
-cells_of r = row (number_of r.kind) r.number r.second_number 0 r.after (text r.origin r.start r.size) r.width
+cells_of r = cells_at r.after r
 
 -- a row is written, as one without parts
 pub record Written (kind n k : ℕ) (t : Text) (w : ℕ) (s : List ℕ) (c : Cursor) (s' : List ℕ) (c' : Cursor) : Type 0 where

@@ -1,4 +1,4 @@
 pub mod Act
-pub mod Kinds
+pub mod Does
 pub mod Laid
 pub mod Spelling

@@ -1,14 +1,12 @@
-// Steps of layout: what they write to the store of rows, and how the cursor moves.
+// `State` of fmt.rs: the steps of layout, what they write to the store of rows, and how the cursor moves.
 #![tactic(auto)]
 
-mod kinds;
 pub mod leaves;
 pub mod parts;
 mod store;
 pub mod words;
 
-ghost use Rattle.std.specs.Prelude.{◌≡◌, ◌+◌, ◌<◌};
-ghost use Rattle.acts.specs.Laid.{cursor};
+ghost use Rattle.std.specs.Prelude.{◌<◌};
 
 // The position in the source, how many comments are placed, the next row, and the next group number. In this order what rarely changes is
 // copied at once.
@@ -20,16 +18,30 @@ pub struct Cursor {
     pub number: u32,
 }
 
-// `*self.pos = pos`
-pub fn move_to(c: Cursor, pos: u32) -> Cursor
-    ensures { result ≡ cursor c.row c.number pos c.placed }
-{
-    Cursor { pos, ..c }
+// What layout changes: the store of rows, and the cursor.
+#[derive(Drop)]
+pub struct State<'a> {
+    pub store: &'a mut [u32],
+    pub cursor: Cursor,
 }
 
-// How many comments are placed, set anew.
-pub fn with_placed(c: Cursor, placed: u32) -> Cursor
-    ensures { result ≡ cursor c.row c.number c.pos placed }
-{
-    Cursor { placed, ..c }
+impl State<'_> {
+    ghost use Rattle.acts.specs.Act.{move_to, pop};
+    ghost use Rattle.acts.specs.Laid.{top};
+    ghost use Rattle.acts.specs.Does.{Does};
+
+    // `*self.pos = pos`
+    pub fn move_to(&mut self, pos: u32)
+        ensures { Does (move_to pos) self.old self.new }
+    {
+        self.cursor.pos = pos;
+    }
+
+    // `comments.pop_front`
+    pub fn pop_front(&mut self)
+        requires { self.old.cursor.placed < top }
+        ensures { Does pop self.old self.new }
+    {
+        self.cursor.placed += 1;
+    }
 }

@@ -2,11 +2,11 @@
 ghost use Rattle.std.specs.Prelude.{◌≡◌, ◌+◌, ◌*◌, ◌<◌, ◌^◌, length, set};
 ghost use Rattle.std.proofs.lemmas.List.Edits.{sets};
 ghost use Rattle.rows.specs.Places.{WIDTH, PLACES};
-ghost use Rattle.acts.specs.Kinds.{number_of};
-ghost use Rattle.acts.specs.Laid.{text, top, cells_of, Written};
+ghost use Rattle.rows.specs.Kinds.{number_of};
+ghost use Rattle.acts.specs.Laid.{text, top, cells_of};
 
-use crate::Cursor;
-use crate::kinds::Kind;
+use crate::State;
+use rows::kinds::Kind;
 use rows::places::{AFTER, NUMBER, ORIGIN, PLACES, SECOND, SECOND_NUMBER, SIZE, START, WIDTH};
 
 // A row as it is written at first: the place of its second part is 0, and set later where it has one.
@@ -90,13 +90,17 @@ fn write_row(store: &mut [u32], row: u32, r: &Row)
     put_row(store, i, r);
 }
 
-// Writes the row at the cursor as one without parts, and goes past it.
-#[inline(always)]
-pub(crate) fn push_row(store: &mut [u32], c: Cursor, r: Row) -> Cursor
-    requires { c.row < top }
-    ensures { Written (number_of r.kind) r.number r.second_number (text r.origin r.start r.size) r.width store.old c store.new result }
-{
-    let after = c.row + 1;
-    write_row(store, c.row, &Row { after, ..r });
-    Cursor { row: after, ..c }
+impl State<'_> {
+    ghost use Rattle.acts.specs.Does.{Pushed};
+
+    // Writes the row at the cursor as one without parts, and goes past it.
+    #[inline(always)]
+    pub(crate) fn push_row(&mut self, r: Row)
+        requires { self.old.cursor.row < top }
+        ensures { Pushed (number_of r.kind) r.number r.second_number (text r.origin r.start r.size) r.width self.old self.new }
+    {
+        let after = self.cursor.row + 1;
+        write_row(self.store, self.cursor.row, &Row { after, ..r });
+        self.cursor.row = after;
+    }
 }

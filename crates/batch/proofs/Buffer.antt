@@ -2,7 +2,7 @@
 -- Assumes nothing.
 use mathlib.Core.Path.{◌≡◌, refl, sym, ap, ◌∙◌}
 use mathlib.Core.Bool.{Bool, true, false}
-use Rattle.std.specs.Prelude.{None, Some}
+use Rattle.std.specs.Prelude.{None, Some, Result, Ok}
 use mathlib.Core.List.{List, [], ◌∷◌}
 use Prim.Native.Nat.{ℕ, zero, suc, ◌+◌, ◌-◌, ◌≤◌, ◌<◌}
 use native.Mathlib.Nat.{zero-add}
@@ -11,12 +11,14 @@ use lib.Dec.{ltb, leb}
 use lib.ListN.{length}
 use borrow.Author.Tests.{ltb-true, ltb-false, leb-true, leb-false, lt-ltb, le-ltb, le-leb, lt-leb}
 use Rattle.laws.proofs.Numbers.{one_more}
-use Rattle.image.specs.Bytes.{be32}
 use Rattle.image.specs.Read.{Read, got, bad, bind, read_refusal}
 use Rattle.batch.specs.Batch.{MAX_SAVES, Save, frame_end, save_at, saves_from, all_saves, saves_by}
-use Rattle.batch.specs.Whole.{frames_by, Framed}
+use Rattle.batch.specs.Whole.{frames_by, Framed, IsFrame}
+use Rattle.batch.specs.declared.frames.Frame.{Frame}
 use Rattle.refusals.specs.Refusals.{Refusal}
 use Rattle.refusals.specs.Answers.{Answer, refused, accepted}
+use Rattle.refusals.specs.Reasons.{answer_of}
+use Rattle.refusals.specs.declared.Refused.{Refused}
 
 -- a file more in front
 abbrev one_more_lem : Save → Read (List Save) → Read (List Save)
@@ -45,6 +47,10 @@ module _ (f : List ℕ) where
   abbrev frames_after : ℕ → Read (List Save) → Answer ℕ
   frames_after k (got xs end) = accepted (k + length xs)
   frames_after k (bad n p) = refused (record { number = n; place = p })
+
+  -- a frame that is there starts in the buffer
+  pub starts : (at : ℕ) (x : Frame) → IsFrame f at x → at < length f
+  starts at x w = omega (arith, w.inside)
 
   pub record Passed (at files : ℕ) : Type 0 where
     pub inside : at ≤ length f
@@ -107,6 +113,11 @@ module _ (f : List ℕ) where
   pub last : {at : ℕ} {xs : List Save} → length f ≤ at → Files at xs → xs ≡ []
   last h (done l) = refl
   last h (more l k r) = absurd (omega arith)
+
+  -- behind the last of them no frame fits
+  pub past_last : {at : ℕ} {xs : List Save} → length f < frame_end f at → Files at xs → length f ≤ at
+  past_last h (done l) = l
+  past_last h (more l k r) = absurd (omega arith)
 
   -- what was read
   pub record Listed (n at : ℕ) (r : Read (List Save)) : Type 0 where
@@ -176,26 +187,9 @@ framed_by f (got xs end) e files h =
     record { passes = ap read_refusal e; count = g ∙ sym (ap (λ (r : Read (List Save)). length (saves_by r)) e) }
 framed_by f (bad n p) e files h = absurd (cc)
 
-pub framed : (f : List ℕ) (files : ℕ) → accepted files ≡ frames_by (all_saves f) → Framed f files
-framed f files h = framed_by f (all_saves f) refl files h
+pub framed_ok : (f : List ℕ) (r : Result ℕ Refused) (files : ℕ) → answer_of (λ n. n) r ≡ frames_by (all_saves f) → r ≡ Ok files → Framed f files
+framed_ok f r files h e = framed_by f (all_saves f) refl files (sym (ap (answer_of (λ (n : ℕ). n)) e) ∙ h)
 
 pub cut_refuses : (x : Read (List Save)) (r : Refusal) → refused r ≡ frames_by x → read_refusal x ≡ Some r
 cut_refuses (got xs end) r h = absurd (cc)
 cut_refuses (bad n p) r h = let g : r ≡ record { number = n; place = p } = cc in ap Some (sym g)
-
--- ---- the code's test of a frame's end
-module _ (f : List ℕ) (at : ℕ) (inside : at ≤ length f) where
-  -- a head of fewer than eight bytes ends past the buffer, whatever its lengths are read as
-  pub short_head : length f - at < 8 → false ≡ leb (frame_end f at) (length f)
-  short_head h = sym (lt-leb (frame_end f at) (length f) (omega arith))
-
-  module _ (h : 8 ≤ length f - at) (n : ℕ) (e : n ≡ be32 f at) where
-    pub short_source : length f - at - 8 < n → false ≡ leb (frame_end f at) (length f)
-    short_source k = sym (lt-leb (frame_end f at) (length f) (omega arith))
-
-    pub by_image : n ≤ length f - at - 8 → (m : ℕ) → m ≡ be32 f (at + 4) → leb m (length f - at - 8 - n) ≡ leb (frame_end f at) (length f)
-    by_image k m g = go (leb m (length f - at - 8 - n)) refl
-      where
-        go : (t : Bool) → leb m (length f - at - 8 - n) ≡ t → t ≡ leb (frame_end f at) (length f)
-        go true p = let l = leb-true m (length f - at - 8 - n) p in sym (le-leb (frame_end f at) (length f) (omega arith))
-        go false p = let l = leb-false m (length f - at - 8 - n) p in sym (lt-leb (frame_end f at) (length f) (omega arith))

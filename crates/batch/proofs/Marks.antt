@@ -14,7 +14,8 @@ use borrow.Author.Tests.{eqb-false}
 use Rattle.image.specs.Read.{read_all, read_refusal}
 use Rattle.rows.specs.Kinds.{GROUP, INDENT, INDENT_NEXT, WRAP_PARENT, COMMENT, STR, ASCII, LINE, EMPTY_LINE, LINE_OR_SPACE, IF_WRAP, CALL}
 use Rattle.rows.specs.Limits.{MAX_NUMBER}
-use Rattle.rows.specs.Node.{Text, Node, Nodes, group, indent, indent_next, wrap_parent, comment, str, ascii, line, empty_line, line_or_space, if_wrap, call, ◌then◌}
+use Rattle.rows.specs.Node.{Text, Node, Nodes, group, indent, indent_next, wrap_parent}
+use Rattle.rows.specs.Node.{comment, str, ascii, line, empty_line, line_or_space, if_wrap, call, ◌then◌}
 use Rattle.rows.specs.Node as node
 use Rattle.rows.specs.Rows.{size, sizes, row, rows_of, rows, no_text}
 use Rattle.rows.specs.View.{cell, view_of}

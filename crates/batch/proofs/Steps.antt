@@ -1,18 +1,17 @@
 -- From what the calls ensure to what the batch answers and leaves.
 -- Assumes nothing.
-use mathlib.Core.Path.{◌≡◌, refl, sym, ap, subst₂, ◌∙◌}
+use mathlib.Core.Path.{◌≡◌, refl, sym, ap, ◌∙◌}
 use mathlib.Core.Bool.{Bool, true, false}
 use Rattle.std.specs.Prelude.{Option, None, Some, Result, Ok, Err}
 use mathlib.Core.List.{List, [], ◌∷◌}
-use Prim.Native.Nat.{ℕ, ◌+◌, ◌-◌, ◌*◌, ◌≤◌, ◌<◌}
+use Prim.Native.Nat.{ℕ, ◌*◌, ◌≤◌, ◌<◌}
 use native.Mathlib.Omega.{arith}
 use lib.Dec.{ltb}
-use lib.ListN.{length, take, drop}
+use lib.ListN.{length}
 use borrow.Author.Tests.{lt-ltb, le-ltb}
 use Rattle.refusals.specs.Refusals.{Refusal, first, refuse_if, unless}
 use Rattle.refusals.specs.Answers.{accepted, answer_by}
 use Rattle.image.specs.Read.{read_refusal}
-use Rattle.image.specs.Bytes.{be32}
 use Rattle.cut_rule.specs.Run.{write_front}
 use Rattle.whole_run.specs.File.{file_answer}
 use Rattle.whole_run.specs.Built.{FileChoice}
@@ -22,50 +21,43 @@ use Rattle.refusals.specs.Reasons.{number_of, refusal as refusal_lem}
 use Rattle.refusals.specs.declared.Refused.{Refused}
 use Rattle.refusals.specs.declared.Reason.{Reason}
 use Rattle.refusals.specs.declared.Reason.TheVariants as reason
-use Rattle.batch.specs.Batch.{MAX_SAVES, frame_end, save_at, all_saves, saves_by, row_of, single, table_due, texts_due, batch_refusal, batch_result}
+use Rattle.batch.specs.Batch.{MAX_SAVES, Save, all_saves, saves_by, row_of, single, table_due, texts_due, batch_refusal, batch_result}
 use Rattle.batch.specs.Whole.{text_of, Framed, Batches, Saved, Room, Written}
-use Rattle.batch.specs.declared.Batch.{Batch}
 use Rattle.batch.proofs.Buffer.{listed}
 use Rattle.batch.proofs.Rooms.{answer_roomy, output_roomy, bare_text, bare_ten, bare_other}
 use Rattle.batch.proofs.Bounds.{early_fine}
 use Rattle.batch.proofs.Texts.{table_size}
 
--- ---- one file: the parts of the buffer are its source and its image
-module _ (f : List ℕ) (at image end : ℕ) (i : image ≡ at + 8 + be32 f at) (e : end ≡ frame_end f at) (c : FileChoice)
-    (out : List ℕ) (r : Result Text Refused) (out2 : List ℕ)
-    (h : Formats (take (image - (at + 8)) (drop (at + 8) f)) (take (end - image) (drop image f)) c out r out2) where
-  formats : Formats (save_at f at).source (save_at f at).image c out r out2
-  formats = subst₂ (λ (k l : ℕ). Formats (take (k - (at + 8)) (drop (at + 8) f)) (take (l - k) (drop k f)) c out r out2) i e h
-
+-- ---- one file
+module _ (x : Save) (c : FileChoice) (out : List ℕ) (r : Result Text Refused) (out2 : List ℕ) (h : Formats x.source x.image c out r out2) where
   -- without an output
   module _ (bare : length out ≡ 0) where
-    answered : formatted_answer r ≡ file_answer (save_at f at).source (save_at f at).image c 0
-    answered = formats.answer ∙ ap (file_answer (save_at f at).source (save_at f at).image c) bare
+    answered : formatted_answer r ≡ file_answer x.source x.image c 0
+    answered = h.answer ∙ ap (file_answer x.source x.image c) bare
 
-    pub size_text : (t : Text) → r ≡ Ok t → t.bytes.0 ≡ length (text_of c (save_at f at))
-    size_text t q = bare_text c (save_at f at) _ (ap formatted_answer (sym q) ∙ answered)
+    pub size_text : (t : Text) → r ≡ Ok t → t.bytes.0 ≡ length (text_of c x)
+    size_text t q = bare_text c x _ (ap formatted_answer (sym q) ∙ answered)
 
-    pub size_ten : (w : Refused) → r ≡ Err w → w.reason ≡ reason.BytesNeeded → w.place ≡ length (text_of c (save_at f at))
+    pub size_ten : (w : Refused) → r ≡ Err w → w.reason ≡ reason.BytesNeeded → w.place ≡ length (text_of c x)
     size_ten w q t =
-        bare_ten c (save_at f at) (λ o g. (early_fine c (save_at f at) o g).not_ten) w.place
-        (ap (λ (x : Reason). formatted_answer (Err (record { reason = x; place = w.place }))) (sym t) ∙ ap formatted_answer (sym q) ∙ answered)
+        bare_ten c x (λ o g. (early_fine c x o g).not_ten) w.place
+        (ap (λ (y : Reason). formatted_answer (Err (record { reason = y; place = w.place }))) (sym t) ∙ ap formatted_answer (sym q) ∙ answered)
 
-    pub size_other : (w : Refused) → r ≡ Err w → (number_of w.reason ≡ 10 → ⊥) → 0 ≡ length (text_of c (save_at f at))
-    size_other w q t = bare_other c (save_at f at) (number_of w.reason) w.place t (ap formatted_answer (sym q) ∙ answered)
+    pub size_other : (w : Refused) → r ≡ Err w → (number_of w.reason ≡ 10 → ⊥) → 0 ≡ length (text_of c x)
+    size_other w q t = bare_other c x (number_of w.reason) w.place t (ap formatted_answer (sym q) ∙ answered)
 
   -- with room for its text
-  module _ (fits : length (text_of c (save_at f at)) ≤ length out) where
-    row_same : row_of (formatted_answer r) ≡ row_of (single c (save_at f at))
-    row_same = ap row_of (formats.answer ∙ answer_roomy c (save_at f at) (length out) fits)
+  module _ (fits : length (text_of c x) ≤ length out) where
+    row_same : row_of (formatted_answer r) ≡ row_of (single c x)
+    row_same = ap row_of (h.answer ∙ answer_roomy c x (length out) fits)
 
-    left : out2 ≡ write_front (text_of c (save_at f at)) out
-    left = formats.output_left_of ∙ output_roomy c (save_at f at) out fits
+    left : out2 ≡ write_front (text_of c x) out
+    left = h.output_left_of ∙ output_roomy c x out fits
 
-    pub saved_text : (t : Text) → r ≡ Ok t → Saved c (save_at f at) out (record { number = 0; place = 0; bytes = t.bytes.0 }) out2
+    pub saved_text : (t : Text) → r ≡ Ok t → Saved c x out (record { number = 0; place = 0; bytes = t.bytes.0 }) out2
     saved_text t q = record { row = ap (λ (z : Result Text Refused). row_of (formatted_answer z)) (sym q) ∙ row_same; text_left = left }
 
-    pub saved_refused : (w : Refused) → r ≡ Err w
-        → Saved c (save_at f at) out (record { number = number_of w.reason; place = w.place; bytes = 0 }) out2
+    pub saved_refused : (w : Refused) → r ≡ Err w → Saved c x out (record { number = number_of w.reason; place = w.place; bytes = 0 }) out2
     saved_refused w q = record { row = ap (λ (z : Result Text Refused). row_of (formatted_answer z)) (sym q) ∙ row_same; text_left = left }
 
 -- ---- the batch

@@ -1,6 +1,6 @@
 -- The texts of all files and their rows: counted, and written one after the other.
 -- Assumes nothing.
-use mathlib.Core.Path.{◌≡◌, refl, sym, ap, ap₂, ◌∙◌}
+use mathlib.Core.Path.{◌≡◌, refl, sym, ap, ap₂, subst, ◌∙◌}
 use Rattle.std.specs.Prelude.{None}
 use mathlib.Core.List.{List, [], ◌∷◌, ◌++◌, append-nil}
 use Prim.Native.Nat.{ℕ, ◌+◌, ◌-◌, ◌*◌, ◌≤◌, ◌<◌}
@@ -17,9 +17,10 @@ use Rattle.whole_run.specs.File.{FileResult}
 use Rattle.whole_run.specs.FileLimits.{FILE_TEXT}
 use Rattle.whole_run.specs.Built.{FileChoice}
 use Rattle.batch.specs.Batch.{MAX_SAVES, Save, frame_end, save_at, all_saves, saves_by, row_of, single, table_of, texts_of, table_due, texts_due}
-use Rattle.batch.specs.Whole.{text_of, cells, Saved, Room, Written}
+use Rattle.batch.specs.Whole.{saved, IsFrame, text_of, cells, Saved, Room, Written}
+use Rattle.batch.specs.declared.frames.Frame.{Frame}
 use Rattle.batch.specs.declared.writing.Row.{Row}
-use Rattle.batch.proofs.Buffer.{Files, next, last, listed}
+use Rattle.batch.proofs.Buffer.{Files, starts, next, last, past_last, listed}
 use Rattle.batch.proofs.Bounds.{texts_limited, row_text}
 
 row_size : (a : Answer FileResult) → length (row_of a) ≡ 3
@@ -55,21 +56,20 @@ module _ (c : FileChoice) where
   module _ (f : List ℕ) where
     -- ---- counted: with those before, the texts from here on are all
     pub record Adding (at bytes : ℕ) : Type 0 where
+      pub inside : at ≤ length f
       pub rest : List Save
       pub files : Files f at rest
       pub same : bytes + length (texts_of c rest) ≡ length (texts_due c f)
 
     module _ (passes : read_refusal (all_saves f) ≡ None) where
       pub adding_none : Adding 0 0
-      adding_none = record { rest = saves_by (all_saves f); files = (listed f MAX_SAVES 0 passes).files; same = omega arith }
+      adding_none =
+          record { inside = omega arith; rest = saves_by (all_saves f); files = (listed f MAX_SAVES 0 passes).files; same = omega arith }
 
       pub all_limited : length (texts_due c f) ≤ MAX_SAVES * FILE_TEXT
       all_limited = let h = (listed f MAX_SAVES 0 passes).few in let l = texts_limited c (saves_by (all_saves f)) in omega arith
 
     module _ (at bytes : ℕ) (p : Adding at bytes) where
-      pub adding_fits : at < length f → frame_end f at ≤ length f
-      adding_fits h = (next f h p.files).fits
-
       module _ (h : at < length f) (n : ℕ) (e : n ≡ length (text_of c (save_at f at))) where
         split : length (texts_of c p.rest) ≡ n + length (texts_of c (next f h p.files).others)
         split =
@@ -78,19 +78,37 @@ module _ (c : FileChoice) where
             ∙ length-append (text_of c (save_at f at)) (texts_of c (next f h p.files).others)
             ∙ ap (λ (k : ℕ). k + length (texts_of c (next f h p.files).others)) (sym e)
 
-        pub adding_within : bytes + n ≤ length (texts_due c f)
+        adding_within : bytes + n ≤ length (texts_due c f)
         adding_within = omega (arith, split, p.same)
 
-        pub adding_more : Adding (frame_end f at) (bytes + n)
-        adding_more = record { rest = (next f h p.files).others; files = (next f h p.files).later; same = omega (arith, split, p.same) }
+        adding_more : Adding (frame_end f at) (bytes + n)
+        adding_more =
+            record {
+              inside = (next f h p.files).fits;
+              rest = (next f h p.files).others;
+              files = (next f h p.files).later;
+              same = omega (arith, split, p.same);
+            }
 
-      pub adding_all : length f ≤ at → bytes ≡ length (texts_due c f)
+      -- the same of a frame that the code read
+      module _ (x : Frame) (w : IsFrame f at x) (n : ℕ) (e : n ≡ length (text_of c (saved x))) where
+        as_listed : n ≡ length (text_of c (save_at f at))
+        as_listed = e ∙ ap (λ (y : Save). length (text_of c y)) w.file
+
+        pub frame_within : bytes + n ≤ length (texts_due c f)
+        frame_within = adding_within (starts f at x w) n as_listed
+
+        pub frame_added : Adding x.end (bytes + n)
+        frame_added = subst (λ (k : ℕ). Adding k (bytes + n)) (sym w.end) (adding_more (starts f at x w) n as_listed)
+
+      pub adding_all : length f < frame_end f at → bytes ≡ length (texts_due c f)
       adding_all h =
-          let z = ap (λ (xs : List Save). length (texts_of c xs)) (last f h p.files) ∙ ap length no_texts in
+          let z = ap (λ (xs : List Save). length (texts_of c xs)) (last f (past_last f h p.files) p.files) ∙ ap length no_texts in
           omega (arith, p.same)
 
     -- ---- written: what is left from here on makes the whole table and all texts
     pub record Putting (table₀ out₀ table out : List ℕ) (at cell text : ℕ) : Type 0 where
+      pub inside : at ≤ length f
       pub rest : List Save
       pub files : Files f at rest
       pub rows : sets table cell (table_of c rest) ≡ write_front (table_due c f) table₀
@@ -104,6 +122,7 @@ module _ (c : FileChoice) where
       pub putting_none : Room c f table₀ out₀ → Putting table₀ out₀ table₀ out₀ 0 0 0
       putting_none r =
           record {
+            inside = omega arith;
             rest = saves_by (all_saves f);
             files = (listed f MAX_SAVES 0 r.passes).files;
             rows = sym (write_sets 0 (table_due c f) table₀ (omega (arith, r.rows)));
@@ -118,18 +137,15 @@ module _ (c : FileChoice) where
         pub putting_start : text ≤ length out
         putting_start = omega (arith, p.texts_fit)
 
-        pub putting_all : length f ≤ at → Written c f table₀ out₀ table out
+        pub putting_all : length f < frame_end f at → Written c f table₀ out₀ table out
         putting_all h =
-            let e = last f h p.files in
+            let e = last f (past_last f h p.files) p.files in
             record {
               rows = sym (ap (sets table cell) (ap (table_of c) e ∙ no_rows)) ∙ p.rows;
               texts = sym (ap (sets out text) (ap (texts_of c) e ∙ no_texts)) ∙ p.texts;
             }
 
         module _ (h : at < length f) where
-          pub putting_fits : frame_end f at ≤ length f
-          putting_fits = (next f h p.files).fits
-
           abbrev after : List Save
           after = (next f h p.files).others
 
@@ -148,17 +164,17 @@ module _ (c : FileChoice) where
           texts_count : length (texts_of c p.rest) ≡ length (text_of c (save_at f at)) + length (texts_of c after)
           texts_count = ap length texts_split ∙ length-append (text_of c (save_at f at)) (texts_of c after)
 
-          pub putting_row : cell + 3 ≤ length table
+          putting_row : cell + 3 ≤ length table
           putting_row = omega (arith, rows_count, p.rows_fit)
 
-          pub putting_bytes : text + length (text_of c (save_at f at)) ≤ length out
+          putting_bytes : text + length (text_of c (save_at f at)) ≤ length out
           putting_bytes = omega (arith, texts_count, p.texts_fit)
 
           -- the part of the output that is lent is what is behind the texts so far
           lent : take (length out - text) (drop text out) ≡ drop text out
           lent = take_all (length out - text) (drop text out) (omega (arith, length-drop text out))
 
-          pub putting_text : length (text_of c (save_at f at)) ≤ length (take (length out - text) (drop text out))
+          putting_text : length (text_of c (save_at f at)) ≤ length (take (length out - text) (drop text out))
           putting_text = omega (arith, putting_bytes, ap length lent, length-drop text out)
 
           module _ (row : Row) (part2 table2 : List ℕ) (s : Saved c (save_at f at) (take (length out - text) (drop text out)) row part2)
@@ -175,12 +191,13 @@ module _ (c : FileChoice) where
                 ∙ ap (λ (x : List ℕ). take text out ++ x) (append-nil (write_front (text_of c (save_at f at)) (drop text out)))
                 ∙ write_sets text (text_of c (save_at f at)) out putting_bytes
 
-            pub putting_more : Putting table₀ out₀ table2 out2 (frame_end f at) (cell + 3) (text + row.bytes)
+            putting_more : Putting table₀ out₀ table2 out2 (frame_end f at) (cell + 3) (text + row.bytes)
             putting_more =
                 let n : row.bytes ≡ length (text_of c (save_at f at)) = row_text c (save_at f at) row.number row.place row.bytes s.row in
                 let long : length table2 ≡ length table = ap length t ∙ length-sets table cell (cells row) in
                 let wide : length out2 ≡ length out = ap length part_put ∙ length-sets out text (text_of c (save_at f at)) in
                 record {
+                  inside = (next f h p.files).fits;
                   rest = after;
                   files = (next f h p.files).later;
                   rows =
@@ -199,3 +216,25 @@ module _ (c : FileChoice) where
                   table_same = long ∙ p.table_same;
                   out_same = wide ∙ p.out_same;
                 }
+
+        -- the same of a frame that the code read
+        module _ (x : Frame) (w : IsFrame f at x) where
+          pub frame_row : cell + 3 ≤ length table
+          frame_row = putting_row (starts f at x w)
+
+          pub frame_bytes : text + length (text_of c (saved x)) ≤ length out
+          frame_bytes = subst (λ (y : Save). text + length (text_of c y) ≤ length out) (sym w.file) (putting_bytes (starts f at x w))
+
+          pub frame_text : length (text_of c (saved x)) ≤ length (take (length out - text) (drop text out))
+          frame_text =
+              subst (λ (y : Save). length (text_of c y) ≤ length (take (length out - text) (drop text out))) (sym w.file) (putting_text (starts f at x w))
+
+          pub frame_put : (row : Row) (part2 table2 : List ℕ) → Saved c (saved x) (take (length out - text) (drop text out)) row part2
+              → table2 ≡ sets table cell (cells row)
+              → Putting table₀ out₀ table2 (put_mid text (length out - text) out part2) x.end (cell + 3) (text + row.bytes)
+          frame_put row part2 table2 s t =
+              let listed = subst (λ (y : Save). Saved c y (take (length out - text) (drop text out)) row part2) w.file s in
+              subst
+              (λ (k : ℕ). Putting table₀ out₀ table2 (put_mid text (length out - text) out part2) k (cell + 3) (text + row.bytes))
+              (sym w.end)
+              (putting_more (starts f at x w) row part2 table2 listed t)

@@ -6,8 +6,10 @@ use Rattle.refusals.specs.declared.Refused.{Refused}
 use Rattle.image.specs.Read.{Read, got, bad, read_refusal}
 use Rattle.cut_rule.specs.Run.{write_front}
 use Rattle.whole_run.specs.Built.{FileChoice}
-use Rattle.batch.specs.Batch.{Save, all_saves, saves_by, row_of, text_by, rendered, single, BatchResult, batch_answer, table_due, texts_due, table_left, texts_left}
+use Rattle.batch.specs.Batch.{Save, frame_end, save_at, all_saves, saves_by, row_of, text_by, rendered, single, BatchResult}
+use Rattle.batch.specs.Batch.{batch_answer, table_due, texts_due, table_left, texts_left}
 use Rattle.batch.specs.declared.Batch.{Batch}
+use Rattle.batch.specs.declared.frames.Frame.{Frame}
 use Rattle.batch.specs.declared.writing.Row.{Row}
 
 -- An answer of the code's.
@@ -21,6 +23,16 @@ pub record Batches (f : List ℕ) (c : FileChoice) (table out : List ℕ) (r : R
   pub texts_left_of : out2 ≡ texts_left c f table out
 
 -- ---- the code's answers to a part
+-- the file that a frame holds
+abbrev pub saved : Frame → Save
+saved x = record { source = x.source.now; image = x.image.now }
+
+-- the frame at a place of a buffer, which has all of it
+pub record IsFrame (f : List ℕ) (at : ℕ) (x : Frame) : Type 0 where
+  pub inside : frame_end f at ≤ length f
+  pub end : x.end ≡ frame_end f at
+  pub file : saved x ≡ save_at f at
+
 -- how many frames there are, or the refusal of the first at fault
 abbrev pub frames_by : Read (List Save) → Answer ℕ
 frames_by (got xs end) = accepted (length xs)

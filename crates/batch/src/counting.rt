@@ -1,23 +1,20 @@
 // The bytes of all texts, counted before anything is written.
-ghost use Rattle.std.specs.Prelude.{◌≡◌, ◌≤◌, length};
+ghost use Rattle.std.specs.Prelude.{◌≡◌, length};
 ghost use Rattle.image.specs.Read.{read_refusal};
 ghost use Rattle.file.specs.Whole.{to_choice};
-ghost use Rattle.batch.specs.Batch.{frame_end, save_at, all_saves, texts_due};
-ghost use Rattle.batch.specs.Whole.{text_of};
+ghost use Rattle.batch.specs.Batch.{all_saves, texts_due};
+ghost use Rattle.batch.specs.Whole.{saved, text_of};
 
-use crate::frames::{HEAD, frame_end, image_start};
+use crate::frames::{Frame, frame_at};
 use file::{FileChoice, format_file};
 use refusals::{Reason, Refused};
 
-// The bytes of the text of the file at `at`, none where it is refused: it is formatted without an output.
-fn text_size(frames: &[u8], at: usize, choice: FileChoice) -> usize
-    requires { frame_end frames.now at ≤ length frames.now }
-    ensures { result ≡ length (text_of (to_choice choice) (save_at frames.now at)) }
+// The bytes of the text of a frame's file, none where it is refused: it is formatted without an output.
+#[tactic(auto, using(crate::proofs::Steps::size_text))]
+fn text_size(frame: &Frame, choice: FileChoice) -> usize
+    ensures { result ≡ length (text_of (to_choice choice) (saved frame.now)) }
 {
-    let source = at + HEAD;
-    let image = image_start(frames, at);
-    let end = frame_end(frames, at);
-    match format_file(&frames[source..image], &frames[image..end], &mut [], choice) {
+    match format_file(frame.source, frame.image, &mut [], choice) {
         Ok(text) => text.bytes.0,
         Err(
             Refused {
@@ -30,15 +27,17 @@ fn text_size(frames: &[u8], at: usize, choice: FileChoice) -> usize
 }
 
 // The bytes of the texts of all files.
+#[tactic(auto, using(crate::proofs::Texts::adding_none, crate::proofs::Texts::frame_added))]
 pub(crate) fn count_texts(frames: &[u8], choice: FileChoice) -> usize
     requires { read_refusal (all_saves frames.now) ≡ None }
     ensures { result ≡ length (texts_due (to_choice choice) frames.now) }
 {
     let mut at = 0;
     let mut bytes = 0;
-    while at < frames.len() {
-        bytes += text_size(frames, at, choice);
-        at = frame_end(frames, at);
+    // kept: where the next frame starts is known only once this one is read.
+    while let Some(frame) = frame_at(frames, at) {
+        bytes += text_size(&frame, choice);
+        at = frame.end;
     }
     bytes
 }

@@ -6,7 +6,7 @@ mod frames;
 mod writing;
 
 ghost use Rattle.file.specs.Whole.{to_choice};
-ghost use Rattle.batch.specs.Whole.{Framed, Batches};
+ghost use Rattle.batch.specs.Whole.{Batches};
 
 use crate::counting::count_texts;
 use crate::frames::count_frames;
@@ -21,29 +21,7 @@ pub struct Batch {
     pub bytes: usize,
 }
 
-// Formats the files of frames that are all whole, or refuses to: the table too small for them, or the output.
-fn format_saves(
-    frames: &[u8],
-    table: &mut [u32],
-    out: &mut [u8],
-    choice: FileChoice,
-    files: usize,
-) -> Result<Batch, Refused>
-    requires { Framed frames.now files }
-    ensures { Batches frames.now (to_choice choice) table.old out.old result table.new out.new }
-{
-    let cells = files * CELLS;
-    if table.len() < cells {
-        return Err(Reason::BatchNeeds.at(cells));
-    }
-    let bytes = count_texts(frames, choice);
-    if out.len() < bytes {
-        return Err(Reason::BatchNeeds.at(bytes));
-    }
-    write_saves(frames, table, out, choice);
-    Ok(Batch { files, bytes })
-}
-
+// kept: buffer, table and output are lent by C, one by one; a struct of them would be made here and taken apart in `write_saves`.
 /// Formats the files of a buffer as single calls would, or refuses to and leaves table and output as they were.
 pub fn format_batch(
     frames: &[u8],
@@ -54,5 +32,14 @@ pub fn format_batch(
     ensures { Batches frames.now (to_choice choice) table.old out.old result table.new out.new }
 {
     let files = count_frames(frames)?;
-    format_saves(frames, table, out, choice, files)
+    let cells = files * CELLS;
+    if table.len() < cells {
+        return Err(Reason::BatchNeeds.at(cells));
+    }
+    let bytes = count_texts(frames, choice);
+    if out.len() < bytes {
+        return Err(Reason::BatchNeeds.at(bytes));
+    }
+    write_saves(frames, table, out, choice);
+    Ok(Batch { files, bytes })
 }

@@ -2,10 +2,9 @@
 ghost use Rattle.std.specs.Prelude.{◌≡◌, ◌+◌, ◌≤◌, length};
 ghost use Rattle.std.proofs.lemmas.List.Edits.{sets};
 ghost use Rattle.file.specs.Whole.{to_choice};
-ghost use Rattle.batch.specs.Batch.{frame_end, save_at};
-ghost use Rattle.batch.specs.Whole.{text_of, cells, Small, Saved, Room, Written};
+ghost use Rattle.batch.specs.Whole.{saved, text_of, cells, Small, Saved, Room, Written};
 
-use crate::frames::{HEAD, frame_end, image_start};
+use crate::frames::{Frame, frame_at};
 use file::{FileChoice, format_file};
 
 // Three numbers a file.
@@ -20,15 +19,13 @@ pub(crate) struct Row {
     bytes: usize,
 }
 
-// Writes the text of the file at `at`, where it has room; the answer is the file's row.
-fn write_text(frames: &[u8], at: usize, out: &mut [u8], choice: FileChoice) -> Row
-    requires { (frame_end frames.now at ≤ length frames.now) × (length (text_of (to_choice choice) (save_at frames.now at)) ≤ length out.old) }
-    ensures { Saved (to_choice choice) (save_at frames.now at) out.old result out.new }
+// Writes the text of a frame's file, where it has room; the answer is the file's row.
+#[tactic(auto, using(crate::proofs::Steps::saved_text, crate::proofs::Steps::saved_refused))]
+fn write_text(frame: &Frame, out: &mut [u8], choice: FileChoice) -> Row
+    requires { length (text_of (to_choice choice) (saved frame.now)) ≤ length out.old }
+    ensures { Saved (to_choice choice) (saved frame.now) out.old result out.new }
 {
-    let source = at + HEAD;
-    let image = image_start(frames, at);
-    let end = frame_end(frames, at);
-    match format_file(&frames[source..image], &frames[image..end], out, choice) {
+    match format_file(frame.source, frame.image, out, choice) {
         Ok(text) => Row {
             number: 0,
             place: 0,
@@ -52,6 +49,7 @@ fn write_row(table: &mut [u32], at: usize, row: Row)
 }
 
 // Writes the rows and the texts of all files.
+#[tactic(auto, using(crate::proofs::Texts::putting_none, crate::proofs::Texts::frame_row))]
 pub(crate) fn write_saves(frames: &[u8], table: &mut [u32], out: &mut [u8], choice: FileChoice)
     requires { Room (to_choice choice) frames.now table.old out.old }
     ensures { Written (to_choice choice) frames.now table.old out.old table.new out.new }
@@ -59,11 +57,12 @@ pub(crate) fn write_saves(frames: &[u8], table: &mut [u32], out: &mut [u8], choi
     let mut at = 0;
     let mut cell = 0;
     let mut text = 0;
-    while at < frames.len() {
-        let row = write_text(frames, at, &mut out[text..], choice);
+    // kept: where the next frame starts is known only once this one is read.
+    while let Some(frame) = frame_at(frames, at) {
+        let row = write_text(&frame, &mut out[text..], choice);
         write_row(table, cell, row);
         text += row.bytes;
         cell += CELLS;
-        at = frame_end(frames, at);
+        at = frame.end;
     }
 }

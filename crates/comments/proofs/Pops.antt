@@ -1,8 +1,7 @@
 -- Laws of the steps of comment placing: what each does by what waits at the front, and how the loop of `pop_whitespace` goes on.
 -- Assumes nothing.
 use mathlib.Core.Path.{◌≡◌, refl, sym, ap, subst, ◌∙◌}
-use mathlib.Core.Logic.{◌⊎◌, inl, inr}
-use mathlib.Core.Bool.{Bool, true, false, cond, ◌&&◌}
+use mathlib.Core.Bool.{Bool, true, false, cond, ◌&&◌, ◌||◌}
 use mathlib.Core.List.{List}
 use Rattle.std.specs.Prelude.{Option, None, Some}
 use Prim.Native.Nat.{ℕ, zero, suc, ◌+◌, ◌-◌, ◌≤◌, ◌<◌, min}
@@ -18,10 +17,9 @@ use Rattle.rows.specs.Node.{line, empty_line}
 use Rattle.acts.specs.Act.{Given, St, Act, Asking, next, ◌⨟◌, ◌⨟!◌, skip, push, move_to, pop, step_alone}
 use Rattle.acts.specs.declared.Cursor.{Cursor}
 use Rattle.comments.specs.declared.Gap.{Gap}
-use Rattle.acts.specs.Laid.{cursor, st, Room, Laid, LaidAsking}
-use Rattle.acts.proofs.Laws.{room_same, room_first, room_past, laid_same, laid_then, laid_skip, laid_move_to, laid_pop}
+use Rattle.acts.specs.Laid.{st, Room, Laid, LaidAsking}
+use Rattle.acts.proofs.Laws.{room_same, room_first, room_past, laid_same, laid_then, laid_skip}
 use Rattle.acts.proofs.Laws.{asking_same, laid_answering, laid_turning, laid_answers}
-use Rattle.comments.specs.Listed.{given}
 use Rattle.comments.specs.Comments.{nth, break_line, gap_of, uncounted, push_comment, newlines, ignore_newlines, pop_comment, waits}
 use Rattle.comments.specs.Comments.{pop_comments, after_comments, pop_whitespace, pop_trailing_comment}
 
@@ -47,18 +45,18 @@ module _ (g : Given) where
   unfolding newlines
   room_newlines position room = room_first (move_to position) (room_same refl room)
 
-  pub laid_newlines : (position : ℕ) (n : Newlines) {s s₁ : List ℕ} {c c₁ c₂ : Cursor} → n ≡ count_newlines g.source c.pos position
-      → Laid (break_line n) s c s₁ c₁ → c₂ ≡ cursor c₁.row c₁.number position c₁.placed → LaidAsking (newlines g position) s c s₁ c₂ n
+  pub laid_newlines : (position : ℕ) (n : Newlines) {s s₁ s₂ : List ℕ} {c c₁ c₂ : Cursor} → n ≡ count_newlines g.source c.pos position
+      → Laid (break_line n) s c s₁ c₁ → Laid (move_to position) s₁ c₁ s₂ c₂ → LaidAsking (newlines g position) s c s₂ c₂ n
   unfolding newlines
-  laid_newlines position n {s} {s₁} {c} {c₁} {c₂} e l m =
+  laid_newlines position n {s} {s₁} {s₂} {c} {c₁} {c₂} e l m =
       let r : Asking Newlines = λ s. ((break_line n ⨟ move_to position) s, n) in
-      let k : LaidAsking r s c s₁ c₂ n = record { laid = laid_then l (laid_move_to m); answers = refl } in
+      let k : LaidAsking r s c s₂ c₂ n = record { laid = laid_then l m; answers = refl } in
       asking_same (ap (λ (x : Newlines). ((break_line x ⨟ move_to position) (st c), x)) e) k
 
-  pub laid_ignored : (position : ℕ) {s : List ℕ} {c c' : Cursor}
-      → c' ≡ cursor c.row c.number (ignore_newlines g position (st c)).pos c.placed → Laid (ignore_newlines g position) s c s c'
+  pub laid_ignored : (position : ℕ) {p : ℕ} {s s' : List ℕ} {c c' : Cursor} → p ≡ (ignore_newlines g position (st c)).pos
+      → Laid (move_to p) s c s' c' → Laid (ignore_newlines g position) s c s' c'
   unfolding ignore_newlines
-  laid_ignored position {s} {c} {c'} e = laid_same refl (laid_move_to e)
+  laid_ignored position {s} {s'} {c} {c'} e l = laid_same refl (subst (λ (x : ℕ). Laid (move_to x) s c s' c') e l)
 
   -- ---- one comment of `pop_whitespace`
   newlines_placed : (position : ℕ) (s : St) → (newlines g position s).0.placed ≡ s.placed
@@ -83,23 +81,23 @@ module _ (g : Given) where
   unfolding pop_comment ◌⨟◌
   comment_placed leading p s = gap_placed leading p.start (next s (pop s))
 
-  pub laid_comment : (leading : Bool) (p : Span) {s s₁ s₂ : List ℕ} {c c₁ c₂ c₃ c₄ : Cursor}
-      → c₁ ≡ cursor c.row c.number c.pos (c.placed + 1) → Laid (gap leading p.start) s c₁ s₁ c₂
-      → c₃ ≡ cursor c₂.row c₂.number (p.end - 1) c₂.placed → Laid (push_comment g p) s₁ c₃ s₂ c₄ → Laid (pop_comment g leading p) s c s₂ c₄
+  pub laid_comment : (leading : Bool) (p : Span) {s s₁ s₂ s₃ s₄ : List ℕ} {c c₁ c₂ c₃ c₄ : Cursor} → Laid pop s c s₁ c₁
+      → Laid (gap leading p.start) s₁ c₁ s₂ c₂ → Laid (move_to (p.end - 1)) s₂ c₂ s₃ c₃ → Laid (push_comment g p) s₃ c₃ s₄ c₄
+      → Laid (pop_comment g leading p) s c s₄ c₄
   unfolding pop_comment
-  laid_comment leading p e l f m = laid_then (laid_pop e) (laid_then l (laid_then (laid_move_to f) m))
+  laid_comment leading p k l f m = laid_then k (laid_then l (laid_then f m))
 
   -- room for it is room for what comes before it, and for its text
-  pub room_gap : (leading : Bool) (p : Span) (s : List ℕ) {c c₁ : Cursor} → c₁ ≡ cursor c.row c.number c.pos (c.placed + 1)
+  pub room_gap : (leading : Bool) (p : Span) {s s₁ : List ℕ} {c c₁ : Cursor} → Laid pop s c s₁ c₁
       → Room (pop_comment g leading p) c → Room (gap leading p.start) c₁
   unfolding pop_comment
-  room_gap leading p s e room = room_first _ (room_past room (laid_pop {s = s} e))
+  room_gap leading p k room = room_first _ (room_past room k)
 
-  pub room_remark : (leading : Bool) (p : Span) {s s₁ : List ℕ} {c c₁ c₂ c₃ : Cursor}
-      → c₁ ≡ cursor c.row c.number c.pos (c.placed + 1) → Laid (gap leading p.start) s c₁ s₁ c₂
-      → c₃ ≡ cursor c₂.row c₂.number (p.end - 1) c₂.placed → Room (pop_comment g leading p) c → Room (push_comment g p) c₃
+  pub room_remark : (leading : Bool) (p : Span) {s s₁ s₂ s₃ : List ℕ} {c c₁ c₂ c₃ : Cursor} → Laid pop s c s₁ c₁
+      → Laid (gap leading p.start) s₁ c₁ s₂ c₂ → Laid (move_to (p.end - 1)) s₂ c₂ s₃ c₃
+      → Room (pop_comment g leading p) c → Room (push_comment g p) c₃
   unfolding pop_comment
-  room_remark leading p {s} {s₁} e l f room = room_past (room_past (room_past room (laid_pop {s = s} e)) l) (laid_move_to {s = s₁} f)
+  room_remark leading p k l f room = room_past (room_past (room_past room k) l) f
 
   -- one comment more is placed after it
   pub one_more : (leading : Bool) (p : Span) {s s' : List ℕ} {c c' : Cursor} → Laid (pop_comment g leading p) s c s' c' → c'.placed ≡ c.placed + 1
@@ -196,68 +194,47 @@ module _ (g : Given) where
   room_comments position leading trailing only {c} room =
       room_first (step_alone (after_comments g (waits g position (st c) && trailing) position only)) (room_whole position leading trailing only room)
 
-  -- newlines after a comment
-  pub room_trailing : (position : ℕ) (leading trailing only : Bool) {s s₁ : List ℕ} {c c₁ : Cursor} → waits g position (st c) ≡ true → trailing ≡ true
-      → Laid (pop_comments g (length g.comments) position leading) s c s₁ c₁ → Room (step_alone (pop_whitespace g position leading trailing only)) c
-      → Room (step_alone (newlines g position)) c₁
-  room_trailing position leading trailing only {c = c} {c₁ = c₁} w t l room =
-      let after : Room (step_alone (after_comments g (waits g position (st c) && trailing) position only)) c₁ =
-      room_past (room_whole position leading trailing only room) l in
-      subst (λ (y : Bool). Room (step_alone (after_comments g (true && y) position only)) c₁) t
-      (subst (λ (x : Bool). Room (step_alone (after_comments g (x && trailing) position only)) c₁) w after)
+  -- after the loop: newlines are counted after comments that keep them, or where they alone are kept
+  room_counted_by : (position : ℕ) (x only : Bool) {c : Cursor} → (x || only) ≡ true → Room (step_alone (after_comments g x position only)) c
+      → Room (step_alone (newlines g position)) c
+  room_counted_by position true only e room = room
+  room_counted_by position false true e room = room
+  room_counted_by position false false e room = let z : ◌≡◌ {A = ℕ} 0 1 = cc in absurd (omega arith)
 
-  pub laid_trailing : (position : ℕ) (leading only : Bool) {trailing : Bool} {s s₁ s₂ : List ℕ} {c c₁ c₂ : Cursor} {n : Newlines}
-      → waits g position (st c) ≡ true → trailing ≡ true → Laid (pop_comments g (length g.comments) position leading) s c s₁ c₁
-      → LaidAsking (newlines g position) s₁ c₁ s₂ c₂ n → LaidAsking (pop_whitespace g position leading trailing only) s c s₂ c₂ (gap_of true n)
-  laid_trailing position leading only {trailing} {s} {s₁} {s₂} {c} {c₁} {c₂} {n} w t l m =
-      let k : LaidAsking (after_comments g true position only) s₁ c₁ s₂ c₂ (gap_of true n) = laid_turning (gap_of true) m in
-      whole position leading trailing only l
-      (subst (λ (x : Bool). LaidAsking (after_comments g (x && trailing) position only) s₁ c₁ s₂ c₂ (gap_of true n)) (sym w)
-      (subst (λ (y : Bool). LaidAsking (after_comments g (true && y) position only) s₁ c₁ s₂ c₂ (gap_of true n)) (sym t) k))
+  counted_by : (position : ℕ) (x only : Bool) {s s' : List ℕ} {c c' : Cursor} {n : Newlines} → (x || only) ≡ true → LaidAsking (newlines g position) s c s' c' n
+      → LaidAsking (after_comments g x position only) s c s' c' (gap_of x n)
+  counted_by position true only e l = laid_turning (gap_of true) l
+  counted_by position false true e l = laid_turning (gap_of false) l
+  counted_by position false false e l = let z : ◌≡◌ {A = ℕ} 0 1 = cc in absurd (omega arith)
 
-  -- otherwise
-  rest : (x y : Bool) (position : ℕ) (only : Bool) {s s' : List ℕ} {c c' : Cursor} {r : Gap} → (y ≡ false) ⊎ (x ≡ false)
-      → LaidAsking (after_comments g false position only) s c s' c' r → LaidAsking (after_comments g (x && y) position only) s c s' c' r
-  rest true true position only (inl e) l = let z : ◌≡◌ {A = ℕ} 0 1 = cc in absurd (omega arith)
-  rest true true position only (inr e) l = let z : ◌≡◌ {A = ℕ} 0 1 = cc in absurd (omega arith)
-  rest true false position only e l = l
-  rest false y position only e l = l
+  ignored_by : (position : ℕ) (x only : Bool) {s s' : List ℕ} {c c' : Cursor} → (x || only) ≡ false → Laid (ignore_newlines g position) s c s' c'
+      → LaidAsking (after_comments g x position only) s c s' c' (uncounted position)
+  ignored_by position true only e l = let z : ◌≡◌ {A = ℕ} 0 1 = cc in absurd (omega arith)
+  ignored_by position false true e l = let z : ◌≡◌ {A = ℕ} 0 1 = cc in absurd (omega arith)
+  ignored_by position false false e l = laid_answering l
 
-  neither : (x y : Bool) → (y ≡ false) ⊎ (x ≡ false) → (x && y) ≡ false
-  neither true true (inl e) = e
-  neither true true (inr e) = e
-  neither true false e = refl
-  neither false y e = refl
+  module _ (position : ℕ) (leading trailing only : Bool) {commented : Bool} {s s₁ : List ℕ} {c c₁ : Cursor} where
+    pub room_counted : commented ≡ (waits g position (st c) && trailing) → (commented || only) ≡ true
+        → Laid (pop_comments g (length g.comments) position leading) s c s₁ c₁ → Room (step_alone (pop_whitespace g position leading trailing only)) c
+        → Room (step_alone (newlines g position)) c₁
+    room_counted e f l room =
+        room_counted_by position commented only f
+        (subst (λ (x : Bool). Room (step_alone (after_comments g x position only)) c₁) (sym e)
+        (room_past (room_whole position leading trailing only room) l))
 
-  pub room_only : (position : ℕ) (leading trailing only : Bool) {s s₁ : List ℕ} {c c₁ : Cursor} → (trailing ≡ false) ⊎ (waits g position (st c) ≡ false)
-      → only ≡ true → Laid (pop_comments g (length g.comments) position leading) s c s₁ c₁
-      → Room (step_alone (pop_whitespace g position leading trailing only)) c → Room (step_alone (newlines g position)) c₁
-  room_only position leading trailing only {c = c} {c₁ = c₁} e o l room =
-      let after : Room (step_alone (after_comments g (waits g position (st c) && trailing) position only)) c₁ =
-      room_past (room_whole position leading trailing only room) l in
-      subst (λ (y : Bool). Room (step_alone (after_comments g false position y)) c₁) o
-      (subst (λ (x : Bool). Room (step_alone (after_comments g x position only)) c₁) (neither (waits g position (st c)) trailing e) after)
+    pub laid_counted : {s₂ : List ℕ} {c₂ : Cursor} {n : Newlines} → commented ≡ (waits g position (st c) && trailing) → (commented || only) ≡ true
+        → Laid (pop_comments g (length g.comments) position leading) s c s₁ c₁ → LaidAsking (newlines g position) s₁ c₁ s₂ c₂ n
+        → LaidAsking (pop_whitespace g position leading trailing only) s c s₂ c₂ (gap_of commented n)
+    laid_counted {s₂} {c₂} {n} e f l m =
+        whole position leading trailing only l
+        (subst (λ (x : Bool). LaidAsking (after_comments g x position only) s₁ c₁ s₂ c₂ (gap_of commented n)) e (counted_by position commented only f m))
 
-  pub laid_only : (position : ℕ) (leading trailing : Bool) {only : Bool} {s s₁ s₂ : List ℕ} {c c₁ c₂ : Cursor} {n : Newlines}
-      → (trailing ≡ false) ⊎ (waits g position (st c) ≡ false) → only ≡ true
-      → Laid (pop_comments g (length g.comments) position leading) s c s₁ c₁
-      → LaidAsking (newlines g position) s₁ c₁ s₂ c₂ n → LaidAsking (pop_whitespace g position leading trailing only) s c s₂ c₂ (gap_of false n)
-  laid_only position leading trailing {only} {s} {s₁} {s₂} {c} {c₁} {c₂} {n} e o l m =
-      let k : LaidAsking (after_comments g false position true) s₁ c₁ s₂ c₂ (gap_of false n) = laid_turning (gap_of false) m in
-      whole position leading trailing only l
-      (rest (waits g position (st c)) trailing position only e
-      (subst (λ (x : Bool). LaidAsking (after_comments g false position x) s₁ c₁ s₂ c₂ (gap_of false n)) (sym o) k))
-
-  pub laid_neither : (position : ℕ) (leading trailing : Bool) {only : Bool} {s s₁ s₂ : List ℕ} {c c₁ c₂ : Cursor}
-      → (trailing ≡ false) ⊎ (waits g position (st c) ≡ false) → only ≡ false
-      → Laid (pop_comments g (length g.comments) position leading) s c s₁ c₁
-      → Laid (ignore_newlines g position) s₁ c₁ s₂ c₂
-      → LaidAsking (pop_whitespace g position leading trailing only) s c s₂ c₂ (uncounted position)
-  laid_neither position leading trailing {only} {s} {s₁} {s₂} {c} {c₁} {c₂} e o l m =
-      let k : LaidAsking (after_comments g false position false) s₁ c₁ s₂ c₂ (uncounted position) = laid_answering m in
-      whole position leading trailing only l
-      (rest (waits g position (st c)) trailing position only e
-      (subst (λ (x : Bool). LaidAsking (after_comments g false position x) s₁ c₁ s₂ c₂ (uncounted position)) (sym o) k))
+    pub laid_uncounted : {s₂ : List ℕ} {c₂ : Cursor} → commented ≡ (waits g position (st c) && trailing) → (commented || only) ≡ false
+        → Laid (pop_comments g (length g.comments) position leading) s c s₁ c₁ → Laid (ignore_newlines g position) s₁ c₁ s₂ c₂
+        → LaidAsking (pop_whitespace g position leading trailing only) s c s₂ c₂ (uncounted position)
+    laid_uncounted {s₂} {c₂} e f l m =
+        whole position leading trailing only l
+        (subst (λ (x : Bool). LaidAsking (after_comments g x position only) s₁ c₁ s₂ c₂ (uncounted position)) e (ignored_by position commented only f m))
 
   -- ---- where no comment waits
   passes : (n position : ℕ) (leading : Bool) (s : St) → waits g position s ≡ false → pop_comments g n position leading s ≡ skip s
@@ -275,13 +252,16 @@ module _ (g : Given) where
       go (Some p) e =
           omega (arith, ignored_some position s p e, ltb-false p.start position (sym (waits_some position s p e) ∙ w))
 
-  pub laid_quiet : (position : ℕ) (leading trailing : Bool) {only : Bool} {s : List ℕ} {c c' : Cursor} → waits g position (st c) ≡ false
-      → only ≡ false → c' ≡ cursor c.row c.number position c.placed
-      → LaidAsking (pop_whitespace g position leading trailing only) s c s c' (uncounted position)
-  laid_quiet position leading trailing {only} {s} {c} {c'} w o e =
-      laid_neither position leading trailing (inr w) o
+  none_kept : {x : Bool} (y : Bool) → x ≡ false → (x && y) ≡ false
+  none_kept y e = rw e
+
+  pub laid_quiet : (position : ℕ) (leading trailing : Bool) {only : Bool} {s s' : List ℕ} {c c' : Cursor} → waits g position (st c) ≡ false
+      → only ≡ false → Laid (move_to position) s c s' c'
+      → LaidAsking (pop_whitespace g position leading trailing only) s c s' c' (uncounted position)
+  laid_quiet position leading trailing {only} {s} {s'} {c} {c'} w o l =
+      laid_uncounted position leading trailing only (sym (none_kept trailing w)) o
       (laid_same (sym (passes (length g.comments) position leading (st c) w)) laid_skip)
-      (laid_ignored position (e ∙ ap (λ (p : ℕ). cursor c.row c.number p c.placed) (sym (goes position (st c) w))))
+      (laid_ignored position (sym (goes position (st c) w)) l)
 
   -- ---- `pop_trailing_comment`
   pub no_place : (s : St) → something g.source s.pos ≡ None → pop_trailing_comment g s ≡ skip s
@@ -307,8 +287,19 @@ module _ (g : Given) where
   unfolding pop_trailing_comment
   trailing_one s place p e f h = rw (e, pop_trailing_comment) (rw (f, pop_trailing_comment) (rw (eq-eqb p.start place h)))
 
--- the image counts for nothing in `newlines`
-pub any_image : (s b b' : List ℕ) (position : ℕ) {c : Cursor}
-    → Room (step_alone (newlines (given s b) position)) c → Room (step_alone (newlines (given s b') position)) c
-unfolding newlines
-any_image s b b' position room = room_same refl room
+-- the two ways of `&&`
+pub both : {x y z : Bool} → x ≡ true → z ≡ y → z ≡ (x && y)
+both e f = rw e f
+
+pub not_first : {x z : Bool} (y : Bool) → x ≡ false → z ≡ false → z ≡ (x && y)
+not_first y e f = rw e f
+
+-- and of `||`
+pub first_holds : {x : Bool} (y : Bool) → x ≡ true → (x || y) ≡ true
+first_holds y e = rw e refl
+
+pub second_holds : {x y : Bool} → x ≡ false → y ≡ true → (x || y) ≡ true
+second_holds e f = rw e f
+
+pub none_holds : {x y : Bool} → x ≡ false → y ≡ false → (x || y) ≡ false
+none_holds e f = rw e f

@@ -1,21 +1,25 @@
 // Comment placing, after `pop_trailing_comment`, `pop_whitespace`, `newlines` and `ignore_newlines` of fmt.rs. The comments are in the
 // image, and the cursor says how many of them are placed.
+// kept: each function has what it changes, what it reads, and up to where: the Rust's `self`, which has both, and its `position`. Both in one
+// struct would have each call say again that what it reads is what it was.
 #![tactic(auto)]
 
-ghost use Rattle.std.specs.Prelude.{◌≡◌, cond, List, [], ℕ, ◌+◌, ◌≤◌, length};
+ghost use Rattle.std.specs.Prelude.{◌≡◌, cond, ◌≤◌, length, Some};
 ghost use Rattle.acts.specs.Act.{step_alone};
-ghost use Rattle.acts.specs.Laid.{cursor, st, Room, Laid, LaidAsking};
-ghost use Rattle.comments.specs.Comments.{nth, break_line, gap_of, uncounted, whitespace, push_comment, newlines, ignore_newlines, pop_comment, waits};
+ghost use Rattle.acts.specs.Laid.{st, Room};
+ghost use Rattle.acts.specs.Does.{Does, Asked};
+ghost use Rattle.comments.specs.Comments.{nth, break_line, uncounted, whitespace, push_comment, newlines, ignore_newlines, pop_comment, waits};
 ghost use Rattle.comments.specs.Comments.{pop_comments, pop_whitespace, pop_trailing_comment};
 ghost use Rattle.tree.specs.CommentList.{span, comments_of};
-ghost use Rattle.comments.specs.Listed.{given, ListFits, Listed, pending_of};
+ghost use Rattle.comments.specs.Parsed.{given_by};
 
+pub mod parsed;
 mod reading;
 
+use crate::parsed::Parsed;
 use crate::reading::Reading;
-use acts::leaves::{empty_line, line};
-use acts::{Cursor, move_to, with_placed};
-use image::bytes::{num16, num32};
+use acts::leaves::Leaf;
+use acts::{Cursor, State};
 use rows::units::Bytes;
 use text::newlines::Newlines;
 use text::space::trim_end;
@@ -77,171 +81,104 @@ pub struct Gap {
     pub commented: bool,
 }
 
-// What `pop_whitespace` leaves: the cursor, and the gap that it went over.
-#[derive(Clone, Copy, Debug, PartialEq, Eq)]
-pub struct Passed {
-    pub cursor: Cursor,
-    pub gap: Gap,
-}
-
-// What `newlines` leaves: the cursor, and the newlines that it counted.
-#[derive(Clone, Copy, Debug, PartialEq, Eq)]
-struct Counted {
-    cursor: Cursor,
-    newlines: Newlines,
-}
-
-// `comments.front()`
-fn front(image: &[u8], c: Cursor) -> Option<Waiting>
-    requires { ListFits image.now }
-    ensures { result ≡ pending_of (nth (comments_of image.now) c.placed) }
-{
-    let k = c.placed as usize;
-    if k < num16(image, 5) {
-        let at = 7 + 8 * k;
-        let start = num32(image, at) as u32;
-        let end = num32(image, at + 4) as u32;
-        return Some(Waiting { start, end });
-    }
-    None
-}
-
 // Whether a comment waits before the position.
-fn is_waiting(image: &[u8], c: Cursor, position: u32) -> bool
-    requires { ListFits image.now }
-    ensures { (s : List ℕ) → result ≡ waits (given s image.now) position (st c) }
+fn is_waiting(c: Cursor, parsed: &Parsed<'_>, position: u32) -> bool
+    ensures { result ≡ waits (given_by parsed.now) position (st c) }
 {
-    match front(image, c) {
+    match parsed.front(c.placed) {
         Some(comment) => comment.start < position,
         None => false,
     }
 }
 
 // `Node::Comment` of a comment without the white space at its end.
-fn push_comment(store: &mut [u32], c: Cursor, source: &[u8], comment: Waiting) -> Cursor
+fn push_comment(state: &mut State<'_>, parsed: &Parsed<'_>, comment: Waiting)
     requires start_le_end { comment.start ≤ comment.end }
-    requires room { Room (push_comment (given source.now []) (span comment.start comment.end)) c }
-    ensures { (b : List ℕ) → Laid (push_comment (given source.now b) (span comment.start comment.end)) store.old c store.new result }
+    requires room { Room (push_comment (given_by parsed.now) (span comment.start comment.end)) state.old.cursor }
+    ensures { Does (push_comment (given_by parsed.now) (span comment.start comment.end)) state.old state.new }
 {
     let start = comment.start as usize;
-    let trimmed = trim_end(source, start, comment.end as usize);
-    acts::leaves::comment(store, c, comment.start, Bytes(trimmed - start))
+    let trimmed = trim_end(parsed.source, start, comment.end as usize);
+    state.push(Leaf::Comment {
+        start: comment.start,
+        size: Bytes(trimmed - start),
+    });
 }
 
 // A line for one newline, an empty line for more. Where the last of them is doesn't matter here.
-fn break_line(store: &mut [u32], c: Cursor, n: Newlines) -> Cursor
-    requires { Room (break_line n) c }
-    ensures { Laid (break_line n) store.old c store.new result }
+// kept: a match on a count, as in the Rust.
+fn break_line(state: &mut State<'_>, n: Newlines)
+    requires { Room (break_line n) state.old.cursor }
+    ensures { Does (break_line n) state.old state.new }
 {
     match n.count {
-        0 => c,
-        1 => line(store, c),
-        _ => empty_line(store, c),
+        0 => {}
+        1 => state.push(Leaf::Line),
+        _ => state.push(Leaf::EmptyLine),
     }
 }
 
 // A line for one newline up to the position, an empty line for more; it returns them.
-fn newlines(store: &mut [u32], c: Cursor, source: &[u8], position: u32) -> Counted
-    requires { Room (step_alone (newlines (given source.now []) position)) c }
-    ensures { (b : List ℕ) → LaidAsking (newlines (given source.now b) position) store.old c store.new result.cursor result.newlines }
+fn newlines(state: &mut State<'_>, parsed: &Parsed<'_>, position: u32) -> Newlines
+    requires { Room (step_alone (newlines (given_by parsed.now) position)) state.old.cursor }
+    ensures { Asked (newlines (given_by parsed.now) position) state.old state.new result }
 {
     let reading = Reading {
-        source,
-        at: c.pos as usize,
+        source: parsed.source,
+        at: state.cursor.pos as usize,
     };
     let n = reading.newlines_up_to(position as usize);
-    let d = break_line(store, c, n);
-    Counted {
-        cursor: move_to(d, position),
-        newlines: n,
-    }
+    break_line(state, n);
+    state.move_to(position);
+    n
 }
 
 // Goes to the position, or to the comment at the front where that starts before it.
-fn ignore_newlines(image: &[u8], c: Cursor, position: u32) -> Cursor
-    requires { ListFits image.now }
-    ensures { (s : List ℕ) → result ≡ cursor c.row c.number (ignore_newlines (given s image.now) position (st c)).pos c.placed }
+fn ignore_newlines(state: &mut State<'_>, parsed: &Parsed<'_>, position: u32)
+    ensures { Does (ignore_newlines (given_by parsed.now) position) state.old state.new }
 {
-    match front(image, c) {
-        None => move_to(c, position),
-        Some(comment) => move_to(c, position.min(comment.start)),
+    match parsed.front(state.cursor.placed) {
+        None => state.move_to(position),
+        Some(comment) => state.move_to(position.min(comment.start)),
     }
 }
 
 // The newlines before a comment, which are kept or not.
-fn before_comment(
-    store: &mut [u32],
-    c: Cursor,
-    source: &[u8],
-    image: &[u8],
-    leading: bool,
-    start: u32,
-) -> Cursor
-    requires list_fits { ListFits image.now }
-    requires room { Room (cond leading (step_alone (newlines (given source.now image.now) start)) (ignore_newlines (given source.now image.now) start)) c }
-    ensures { Laid (cond leading (step_alone (newlines (given source.now image.now) start)) (ignore_newlines (given source.now image.now) start)) store.old c store.new result }
+fn before_comment(state: &mut State<'_>, parsed: &Parsed<'_>, leading: bool, start: u32)
+    requires { Room (cond leading (step_alone (newlines (given_by parsed.now) start)) (ignore_newlines (given_by parsed.now) start)) state.old.cursor }
+    ensures { Does (cond leading (step_alone (newlines (given_by parsed.now) start)) (ignore_newlines (given_by parsed.now) start)) state.old state.new }
 {
     if leading {
-        let before = newlines(store, c, source, start);
-        return before.cursor;
+        newlines(state, parsed, start);
+        return;
     }
-    ignore_newlines(image, c, start)
+    ignore_newlines(state, parsed, start);
 }
 
 // One comment of `pop_whitespace`: the one at the front.
-fn pop_comment(
-    store: &mut [u32],
-    c: Cursor,
-    source: &[u8],
-    image: &[u8],
-    leading: bool,
-    comment: Waiting,
-) -> Cursor
-    requires listed { Listed source.now image.now }
-    requires placed_value { nth (comments_of image.now) c.placed ≡ Some (span comment.start comment.end) }
-    requires room { Room (pop_comment (given source.now image.now) leading (span comment.start comment.end)) c }
-    ensures { Laid (pop_comment (given source.now image.now) leading (span comment.start comment.end)) store.old c store.new result }
+fn pop_comment(state: &mut State<'_>, parsed: &Parsed<'_>, leading: bool, comment: Waiting)
+    requires placed_value { nth (comments_of parsed.now.image.now) state.old.cursor.placed ≡ Some (span comment.start comment.end) }
+    requires room { Room (pop_comment (given_by parsed.now) leading (span comment.start comment.end)) state.old.cursor }
+    ensures { Does (pop_comment (given_by parsed.now) leading (span comment.start comment.end)) state.old state.new }
 {
-    let popped = with_placed(c, c.placed + 1);
-    let d = before_comment(store, popped, source, image, leading, comment.start);
-    push_comment(store, move_to(d, comment.end - 1), source, comment)
+    state.pop_front();
+    before_comment(state, parsed, leading, comment.start);
+    state.move_to(comment.end - 1);
+    push_comment(state, parsed, comment);
 }
 
 // The loop of `pop_whitespace`: the comments that start before the position.
-fn pop_comments(
-    store: &mut [u32],
-    c: Cursor,
-    source: &[u8],
-    image: &[u8],
-    position: u32,
-    leading: bool,
-) -> Cursor
-    requires listed { Listed source.now image.now }
-    requires room { Room (pop_comments (given source.now image.now) (length (comments_of image.now)) position leading) c }
-    ensures { Laid (pop_comments (given source.now image.now) (length (comments_of image.now)) position leading) store.old c store.new result }
+fn pop_comments(state: &mut State<'_>, parsed: &Parsed<'_>, position: u32, leading: bool)
+    requires { Room (pop_comments (given_by parsed.now) (length (comments_of parsed.now.image.now)) position leading) state.old.cursor }
+    ensures { Does (pop_comments (given_by parsed.now) (length (comments_of parsed.now.image.now)) position leading) state.old state.new }
 {
-    let mut d = c;
     let mut keep = leading;
-    while let Some(comment) = front(image, d) {
+    while let Some(comment) = parsed.front(state.cursor.placed) {
         if position <= comment.start {
-            return d;
+            return;
         }
-        d = pop_comment(store, d, source, image, keep, comment);
+        pop_comment(state, parsed, keep, comment);
         keep = true;
-    }
-    d
-}
-
-// The gap of newlines that were counted, after comments or not.
-fn gap_of(n: Counted, commented: bool) -> Passed
-    ensures { (result.cursor ≡ n.cursor) × (result.gap ≡ gap_of commented n.newlines) }
-{
-    Passed {
-        cursor: n.cursor,
-        gap: Gap {
-            newlines: n.newlines,
-            commented,
-        },
     }
 }
 
@@ -259,57 +196,34 @@ fn uncounted(position: u32) -> Gap
 }
 
 // `pop_whitespace`: the comments that wait, and then newlines, kept or not.
-fn place_comments(
-    store: &mut [u32],
-    c: Cursor,
-    source: &[u8],
-    image: &[u8],
-    position: u32,
-    kept: &Kept,
-) -> Passed
-    requires listed { Listed source.now image.now }
-    requires room { Room (step_alone (pop_whitespace (given source.now image.now) position kept.now.leading kept.now.trailing kept.now.only)) c }
-    ensures { LaidAsking (pop_whitespace (given source.now image.now) position kept.now.leading kept.now.trailing kept.now.only) store.old c store.new result.cursor result.gap }
+fn place_comments(state: &mut State<'_>, parsed: &Parsed<'_>, position: u32, kept: &Kept) -> Gap
+    requires { Room (step_alone (pop_whitespace (given_by parsed.now) position kept.now.leading kept.now.trailing kept.now.only)) state.old.cursor }
+    ensures { Asked (pop_whitespace (given_by parsed.now) position kept.now.leading kept.now.trailing kept.now.only) state.old state.new result }
 {
-    let waiting = is_waiting(image, c, position);
-    let d = pop_comments(store, c, source, image, position, kept.leading);
-    if waiting && kept.trailing {
-        let after = newlines(store, d, source, position);
-        return gap_of(after, true);
+    let waiting = is_waiting(state.cursor, parsed, position);
+    pop_comments(state, parsed, position, kept.leading);
+    let commented = waiting && kept.trailing;
+    if commented || kept.only {
+        let newlines = newlines(state, parsed, position);
+        return Gap {
+            newlines,
+            commented,
+        };
     }
-    if kept.only {
-        let alone = newlines(store, d, source, position);
-        return gap_of(alone, false);
-    }
-    Passed {
-        cursor: ignore_newlines(image, d, position),
-        gap: uncounted(position),
-    }
+    ignore_newlines(state, parsed, position);
+    uncounted(position)
 }
 
 // Places the comments that start before the position, and goes there. It returns the gap up to the position.
-pub fn pop_whitespace(
-    store: &mut [u32],
-    c: Cursor,
-    source: &[u8],
-    image: &[u8],
-    position: u32,
-    kept: &Kept,
-) -> Passed
-    requires listed { Listed source.now image.now }
-    requires room { Room (step_alone (pop_whitespace (given source.now image.now) position kept.now.leading kept.now.trailing kept.now.only)) c }
-    ensures { LaidAsking (pop_whitespace (given source.now image.now) position kept.now.leading kept.now.trailing kept.now.only) store.old c store.new result.cursor result.gap }
+pub fn pop_whitespace(state: &mut State<'_>, parsed: &Parsed<'_>, position: u32, kept: &Kept) -> Gap
+    requires { Room (step_alone (pop_whitespace (given_by parsed.now) position kept.now.leading kept.now.trailing kept.now.only)) state.old.cursor }
+    ensures { Asked (pop_whitespace (given_by parsed.now) position kept.now.leading kept.now.trailing kept.now.only) state.old state.new result }
 {
-    if kept.only {
-        return place_comments(store, c, source, image, position, kept);
+    if kept.only || is_waiting(state.cursor, parsed, position) {
+        return place_comments(state, parsed, position, kept);
     }
-    if is_waiting(image, c, position) {
-        return place_comments(store, c, source, image, position, kept);
-    }
-    Passed {
-        cursor: move_to(c, position),
-        gap: uncounted(position),
-    }
+    state.move_to(position);
+    uncounted(position)
 }
 
 // What `pop_whitespace` of the Rust returns: whether there is white space that is kept.
@@ -320,25 +234,24 @@ pub fn is_whitespace(gap: Gap) -> bool
 }
 
 // Places the comment at the front, if it starts at the first place that is not white space or is a newline.
-pub fn pop_trailing_comment(store: &mut [u32], c: Cursor, source: &[u8], image: &[u8]) -> Cursor
-    requires listed { Listed source.now image.now }
-    requires room { Room (pop_trailing_comment (given source.now image.now)) c }
-    ensures { Laid (pop_trailing_comment (given source.now image.now)) store.old c store.new result }
+pub fn pop_trailing_comment(state: &mut State<'_>, parsed: &Parsed<'_>)
+    requires { Room (pop_trailing_comment (given_by parsed.now)) state.old.cursor }
+    ensures { Does (pop_trailing_comment (given_by parsed.now)) state.old state.new }
 {
-    let Some(comment) = front(image, c) else {
-        return c;
+    let Some(comment) = parsed.front(state.cursor.placed) else {
+        return;
     };
     let reading = Reading {
-        source,
-        at: c.pos as usize,
+        source: parsed.source,
+        at: state.cursor.pos as usize,
     };
     let Some(place) = reading.next_something() else {
-        return c;
+        return;
     };
     if comment.start as usize != place {
-        return c;
+        return;
     }
-    let popped = with_placed(c, c.placed + 1);
-    let d = push_comment(store, popped, source, comment);
-    move_to(d, comment.end)
+    state.pop_front();
+    push_comment(state, parsed, comment);
+    state.move_to(comment.end);
 }

@@ -185,7 +185,14 @@ module _ (R : Rules) (L : LayoutLaws R) (D : RenderLaws R) where
 
         filled : List ℕ → R.RenderState → List ℕ → Carried R
         filled ms st t =
-            record { store = write_front rows s; marks = ms; layout_state_of = (laid_due R f).state; render_state_of = st; text = t; left = left_due R f.laid_to_of }
+            record {
+              store = write_front rows s;
+              marks = ms;
+              layout_state_of = (laid_due R f).state;
+              render_state_of = st;
+              text = t;
+              left = left_due R f.laid_to_of;
+            }
 
     render_ok : ProgressOk (onward R f (render_call q))
     render_ok = record { laid_ok = k.laid_ok; rendered_ok = (stop_laid, whole) }

@@ -123,7 +123,8 @@ module _ (P : RuleParts) where
   abbrev pub bytes_needed : RenderArgs RenderChoice → RenderState → List ℕ → List ℕ → ℕ
   bytes_needed q s store marks = length (rendered_of s q.to (take s.in_use marks) store).text
 
-  -- "rendering 1, 3 by the same tests, then 11, 12, 9, 10", with 15 "directly after 12", in parts: the lines before marks are counted, 9, and 10, which alone needs the text
+  -- "rendering 1, 3 by the same tests, then 11, 12, 9, 10", with 15 "directly after 12", in parts: the lines before marks are counted, 9, and
+  -- 10, which alone needs the text
   abbrev pub before_marks : RenderArgs RenderChoice → RenderState → List ℕ → List ℕ → List (Option Refusal)
   before_marks q s store marks =
       P.render_image_of q.to.choice

@@ -158,7 +158,8 @@ module _ (s b : List ℕ) where
       → AllUnder ns (file_before_text s b c file_rows file_marks)
   early_under ns eight nine c before =
       all_append ns (file_before_marks s b c file_rows) (file_marks_line s b c file_marks)
-      (all_append ns (file_before_rows s b c) (file_rows_line s b c file_rows) before (under_if ns (ltb file_rows (rows_due s b c)) 8 (rows_due s b c) eight, tt))
+      (all_append ns (file_before_rows s b c) (file_rows_line s b c file_rows) before
+      (under_if ns (ltb file_rows (rows_due s b c)) 8 (rows_due s b c) eight, tt))
       (under_if ns (ltb file_marks (marks_due s b c)) 9 (marks_due s b c) nine, tt)
 
   -- and 10
@@ -177,7 +178,8 @@ module _ (s b : List ℕ) where
   -- in the old mode at 80 the lines of 12 and 15 compute to none
   pub reference_under : (room : ℕ) → Under reference_numbers (file_refusal s b reference_choice room)
   reference_under room =
-      let read : Under reference_numbers (read_refusal (read_all s b)) = under_more reader_numbers (8 ∷ 9 ∷ 10 ∷ []) (read_refusal (read_all s b)) (read_under s b) in
+      let read : Under reference_numbers (read_refusal (read_all s b)) =
+      under_more reader_numbers (8 ∷ 9 ∷ 10 ∷ []) (read_refusal (read_all s b)) (read_under s b) in
       whole_under reference_numbers refl reference_choice room
       (early_under reference_numbers refl refl reference_choice (read, (under_none reference_numbers, (under_none reference_numbers, tt))))
 

@@ -70,7 +70,8 @@ at_stop s b store mode n t left store2 p =
     laid_as s b store _ t left store2 p _ ((due_is_fmt_parsed (read_all s b) s b).at_stop (record { mode = mode }) n h.fits.stop.to)
 
 closed : ClosedDue
-closed s b store t left store2 p = laid_as s b store _ t left store2 p _ ((due_is_fmt_parsed (read_all s b) s b).closed (record { mode = states.OLD_MODE }) refl)
+closed s b store t left store2 p = laid_as s b store _ t left store2 p _
+    ((due_is_fmt_parsed (read_all s b) s b).closed (record { mode = states.OLD_MODE }) refl)
 
 closed_keeping : ClosedKeepingDue
 closed_keeping s b store t left store2 p =
@@ -107,7 +108,8 @@ rendered s b store mode t left store2 p width marks out u n store3 marks2 out2 q
     let fits = layout_told (parts_of s b) (closing_at (layout_choice c) (length (declared s b))) (layout.to_state fresh_layout) store before.passes in
     let moded = mode_passes c fits.fits.mode.known in
     let passed : first (file_before_rows s b c) ≡ None = λ i. first (fits.image i ∷ moded i ∷ legal i ∷ []) in
-    let w = laid_by R (laid_refusal s b c (tests.rows_in store)) (layout.to_state t) left (state_due s b c) _ (p.answer ∙ layout_answer_due s b c passed store) in
+    let w = laid_by R (laid_refusal s b c (tests.rows_in store)) (layout.to_state t) left (state_due s b c) _
+    (p.answer ∙ layout_answer_due s b c passed store) in
     let row : t.row ≡ rows_due s b c = ap (λ (x : states.LayoutState). x.cursor.row) w.state in
     let left_store : store2 ≡ store_left s b c store = p.store_left_of ∙ layout_store_due s b c passed store in
     let table = refusal_in s b c (tests.rows_in store) (length marks) (length out) in

@@ -13,7 +13,7 @@ use borrow.Author.Tests.{ltb-false, le-ltb}
 use Rattle.laws.proofs.Booleans.{or_first, or_rest}
 use Rattle.laws.proofs.Options as options
 use Rattle.refusals.specs.Refusals.{Refusal, refuse_if, is_one_of, unless}
-use Rattle.refusals.specs.Answers.{refused, accepted, answer_by, refusal_of}
+use Rattle.refusals.specs.Answers.{accepted, answer_by, refusal_of}
 use Rattle.refusals.proofs.Groups.{passes_line, passes_others, not_if}
 use Rattle.refusals.proofs.Answers.{by_table, accepted_by, sets_front}
 use Rattle.image.specs.Limits.{MAX_BODY}
@@ -105,7 +105,8 @@ written_front l out n out2 p =
 
 turns_by : (l b : List ℕ) (room : ℕ) → Takes l room → image_due l ≡ b → Turns l b
 turns_by l b room t i =
-    let none_at : writer_refusal l (length b) ≡ None = given_room l room (length b) t (subst (λ (x : List ℕ). length (image_due l) ≤ length x) i (omega arith)) in
+    let fits = subst (λ (x : List ℕ). length (image_due l) ≤ length x) i (omega arith) in
+    let none_at : writer_refusal l (length b) ≡ None = given_room l room (length b) t fits in
     record { taken = ap (λ (o : Option Refusal). answer_by o (length (image_due l))) none_at ∙ ap (λ (x : List ℕ). accepted (length x)) i; image = i }
 
 written_turns : (l out : List ℕ) (n : ℕ) (out2 b : List ℕ) → Writes l out (Ok n) out2 → take n out2 ≡ b → Turns l b

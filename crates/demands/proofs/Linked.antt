@@ -208,7 +208,8 @@ linked_promises = record {
   check =
       λ s b out out2 h e.
       let x = read_all s b in
-      read_back (answer_of (λ (d : Document). d)) checked_from (told_document (length (declared s b))) reader_numbers (read_refusal x) (document_by x) out out2 refl refl (read_under s b)
+      read_back (answer_of (λ (d : Document). d)) checked_from (told_document (length (declared s b))) reader_numbers (read_refusal x)
+      (document_by x) out out2 refl refl (read_under s b)
       (omega arith)
       (omega arith)
       (checked_reads (length (declared s b)) (document_by x))
@@ -235,7 +236,8 @@ linked_promises = record {
       let o = (rules_of s b).render_refusal q z store marks in
       record {
         answer =
-            read_back (render.rendering_answer s b) rendering_from (told_call s b) render_numbers o (written _ _) out out2 refl refl (render_under s b q z store marks)
+            read_back (render.rendering_answer s b) rendering_from (told_call s b) render_numbers o (written _ _) out out2 refl refl
+            (render_under s b q z store marks)
             (omega arith)
             (omega arith)
             (rendering_reads s b _ _)
@@ -260,7 +262,8 @@ linked_promises = record {
   count =
       λ s b from out out2 h e.
       let t = tallies_from from in
-      read_back counted_answer counted_from told_counted count_numbers (count_refusal s b t) (count_result (figures_of s b) t) out out2 refl refl (count_under s b t)
+      read_back counted_answer counted_from told_counted count_numbers (count_refusal s b t) (count_result (figures_of s b) t) out out2 refl refl
+      (count_under s b t)
       (omega arith)
       (omega arith)
       (counted_reads (count_result (figures_of s b) t))
@@ -291,7 +294,8 @@ linked_promises = record {
       let o = batch_refusal c f (length table) (length output) in
       record {
         answer =
-            read_back batched_answer batch_from told_batch batch_numbers o (batch_result c f) out out2 refl refl (batch_under c f (length table) (length output))
+            read_back batched_answer batch_from told_batch batch_numbers o (batch_result c f) out out2 refl refl
+            (batch_under c f (length table) (length output))
             (omega arith)
             (omega arith)
             (batch_reads (batch_result c f))
@@ -367,7 +371,8 @@ linked_1 = record {
 
 -- ---- demand 2: where 0 is first, the answer is the accepted one
 pub linked_layout : (s b store state args out store2 out2 : List ℕ) → length out ≡ 10 → Lays s b store state args out store2 out2 → get_or out2 0 0 ≡ 0
-    → LayoutCalled s b (layout_state state) (layout_args args) store (Ok (record { state = layout_state (take 8 (drop 2 out2)); left = get_or out2 1 0 })) store2
+    → LayoutCalled s b (layout_state state) (layout_args args) store
+    (Ok (record { state = layout_state (take 8 (drop 2 out2)); left = get_or out2 1 0 })) store2
 linked_layout s b store state args out store2 out2 h p e =
     subst (λ (r : Result Laid Refused). LayoutCalled s b (layout_state state) (layout_args args) store r store2) (from_accepted _ out2 e)
     (linked_promises.layout s b store state args out store2 out2 h p)
@@ -515,7 +520,8 @@ module _ (s b : List ℕ) where
     kept_all : AllKept after_made (Promised s b) (fresh_caller store₀ marks₀) made_calls
     kept_all = kept_linked (fresh_holder store₀ marks₀) calls p
 
-    held_same : held_linked s b (after_all after_linked (fresh_holder store₀ marks₀) calls) ≡ held s b (after_all after_made (fresh_caller store₀ marks₀) made_calls)
+    held_same : held_linked s b (after_all after_linked (fresh_holder store₀ marks₀) calls)
+        ≡ held s b (after_all after_made (fresh_caller store₀ marks₀) made_calls)
     held_same = ap (held s b) (after_linked_lem (fresh_holder store₀ marks₀) calls)
 
     pub linked_run : held_linked s b (after_all after_linked (fresh_holder store₀ marks₀) calls)

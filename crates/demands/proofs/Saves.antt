@@ -38,7 +38,8 @@ row_under c x =
     let s = x.source in
     let b = x.image in
     let read = under_more reader_numbers (12 ∷ 15 ∷ 8 ∷ 9 ∷ []) (read_refusal (read_all s b)) (read_under s b) in
-    under_first row_numbers (file_before_text s b c file_rows file_marks) (early_under s b row_numbers refl refl c (before_under s b row_numbers refl refl read c))
+    under_first row_numbers (file_before_text s b c file_rows file_marks)
+    (early_under s b row_numbers refl refl c (before_under s b row_numbers refl refl read c))
 
 pub saves_1 : Saves1
 saves_1 = record {

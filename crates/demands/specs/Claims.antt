@@ -1,5 +1,6 @@
--- All that is claimed, in one place: a field for each claim, under the sentence of the document that it is. proofs/Claims.antt has the one proof of it, so that a claim that
--- goes breaks the build. What each says is read in the file that its name is brought from; nothing is assumed but what README.md lists.
+-- All that is claimed, in one place: a field for each claim, under the sentence of the document that it is. proofs/Claims.antt has the one
+-- proof of it, so that a claim that goes breaks the build. What each says is read in the file that its name is brought from; nothing is
+-- assumed but what README.md lists.
 use Rattle.std.specs.Prelude.{ℕ}
 use Rattle.image.specs.Read.{ReadNumbers}
 use Rattle.rows.specs.Words.{WordsThere}
@@ -27,7 +28,8 @@ use Rattle.demands.specs.Demand3.{Demand3, CallsHoldAll, ClosingLeavesNone}
 use Rattle.demands.specs.Generator.{Generator1, GeneratorLists}
 use Rattle.demands.specs.Saves.{Saves1}
 use Rattle.demands.specs.Linked.{LinkedPromises, Linked1, Linked2, Linked3, LinkedCallsHoldAll, LinkedLists, LinkedSingles}
-use Rattle.demands.specs.Text.{FileIsTheProgram, FileHolds, NewModeFileHoldsAll, LinkedFileIsTheProgram, ReplyIsTheProgram, CallsAreTheProgram, LinkedCallsAreTheProgram}
+use Rattle.demands.specs.Text.{FileIsTheProgram, FileHolds, NewModeFileHoldsAll, LinkedFileIsTheProgram}
+use Rattle.demands.specs.Text.{ReplyIsTheProgram, CallsAreTheProgram, LinkedCallsAreTheProgram}
 use Rattle.demands.specs.Text.{CallsHold, ClosedCallsHoldAll, BatchIsThePrograms, LinkedBatchIsThePrograms}
 
 -- the three demands, of the entries by what they promise
@@ -97,7 +99,8 @@ pub record TheRequests : Type 0 where
   -- 3: "80 is the reference", and the edge of a line at other widths
   pub reference_holds : ReferenceHolds
   pub widths_hold : WidthsHold
-  -- 4: "closing places every waiting comment"; "In the new mode a document closed by calls from fresh holds the whole list, 0 left"; "equality with the Rust in the old"
+  -- 4: "closing places every waiting comment"; "In the new mode a document closed by calls from fresh holds the whole list, 0 left"; "equality
+  -- with the Rust in the old"
   pub closing_places_all : ClosingPlacesAll
   pub closing_leaves_none : ClosingLeavesNone
   pub closed_holds_all : ClosedHoldsAll

@@ -95,8 +95,8 @@ abbrev pub FrameAnswered : Type 0
 FrameAnswered = (frame out : List ℕ) (r : Result Text Refused) (out2 : List ℕ) → FormatsFrame frame out r out2
     → Answered frame_numbers (frame_table frame (length out)) (refusal_in r) (out2 ≡ out)
 
--- `file::reply::reply`, which is lent the output: the n bytes that the program writes for a frame are the line of its refusal, with a number of the list, or the text of the
--- frame's file; behind them the output is as it was
+-- `file::reply::reply`, which is lent the output: the n bytes that the program writes for a frame are the line of its refusal, with a number
+-- of the list, or the text of the frame's file; behind them the output is as it was
 pub record ProgramWrote (frame out : List ℕ) (n : ℕ) (out2 : List ℕ) : Type 0 where
   pub refused : (r : Refusal) → program_refusal frame ≡ Some r → (take n out2 ≡ refused_line r) × (is_one_of r.number frame_numbers ≡ true)
   pub accepted : program_refusal frame ≡ None → take n out2 ≡ (drawn_due (source_of frame) (image_of frame) reference_choice).text

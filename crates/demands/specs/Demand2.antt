@@ -45,13 +45,15 @@ AtStopDue = (s b store : List ℕ) (mode n : ℕ) (t : LayoutState) (left : ℕ)
 -- and closing in the old mode: those that it has in the end
 abbrev pub ClosedDue : Type 0
 ClosedDue = (s b store : List ℕ) (t : LayoutState) (left : ℕ) (store2 : List ℕ)
-    → LayoutCalled s b fresh_layout (record { stop = length (declared s b); close = true; mode = OLD_MODE }) store (Ok (record { state = t; left = left })) store2
+    → LayoutCalled s b fresh_layout (record { stop = length (declared s b); close = true; mode = OLD_MODE }) store
+    (Ok (record { state = t; left = left })) store2
     → LaidOutAs b (fmt_parsed (given s b) (tree s b) fresh) store t left store2
 
 -- and in the new mode: the same, with every comment that waits before the final `Line`; "0 left"
 abbrev pub ClosedKeepingDue : Type 0
 ClosedKeepingDue = (s b store : List ℕ) (t : LayoutState) (left : ℕ) (store2 : List ℕ)
-    → LayoutCalled s b fresh_layout (record { stop = length (declared s b); close = true; mode = NEW_MODE }) store (Ok (record { state = t; left = left })) store2
+    → LayoutCalled s b fresh_layout (record { stop = length (declared s b); close = true; mode = NEW_MODE }) store
+    (Ok (record { state = t; left = left })) store2
     → LaidOutAs b (whole_rule (given s b) (tree s b) true fresh) store t left store2 × (left ≡ 0)
 
 -- ---- rendering
@@ -66,7 +68,8 @@ abbrev pub RenderedDue : Type 0
 RenderedDue = (s b store : List ℕ) (mode : ℕ) (t : LayoutState) (left : ℕ) (store2 : List ℕ)
     → LayoutCalled s b fresh_layout (record { stop = length (declared s b); close = true; mode = mode }) store (Ok (record { state = t; left = left })) store2
     → (width : ℕ) (marks out : List ℕ) (u : RenderState) (n : Bytes) (store3 marks2 out2 : List ℕ)
-    → RenderCalled s b fresh_render (record { stop = t.row; width = record { 0 = width } }) store2 marks out (Ok (record { state = u; bytes = n })) store3 marks2 out2
+    → RenderCalled s b fresh_render (record { stop = t.row; width = record { 0 = width } }) store2 marks out
+    (Ok (record { state = u; bytes = n })) store3 marks2 out2
     → DrawnAs s b (record { width = width; mode = mode }) marks out n.0 marks2 out2
 
 -- ---- a whole file

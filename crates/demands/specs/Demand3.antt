@@ -1,7 +1,8 @@
 -- Demand 3, the cut rule, of the two public calls, `layout_call::layout_call` and `render_call::render_call`, by what they promise and nothing else:
 -- whatever list of calls a caller makes, refused ones included, in which no accepted call reads rows not yet laid out, what it then holds is what
--- the plain run of document 01 has due, in both modes. proofs/Demand3.antt proves it. (Without that condition it is false: crates/cut_rule/proofs/Example.antt.)
--- What is due: crates/cut_rule/specs/Plain.antt; by which rules and which table: crates/whole_run/specs/Parts.antt.
+-- the plain run of document 01 has due, in both modes. proofs/Demand3.antt proves it. (Without that condition it is false:
+-- crates/cut_rule/proofs/Example.antt.) What is due: crates/cut_rule/specs/Plain.antt; by which rules and which table:
+-- crates/whole_run/specs/Parts.antt.
 use Rattle.std.specs.Prelude.{◌≡◌, true, List, [], ◌++◌, map, ℕ, length, take, Option, None, Some, Result, Ok, Err}
 use Rattle.refusals.specs.Answers.{Answer}
 use Rattle.refusals.specs.declared.Refused.{Refused}
@@ -83,7 +84,8 @@ keep_rendering (Err r) out w = w
 -- what it holds after a call
 abbrev pub after_made : Caller → Made → Caller
 after_made w (laid args r store2) =
-    keep_laying r (record { store = store2; marks = w.marks; layout_state_of = w.layout_state_of; render_state_of = w.render_state_of; text = w.text; left = w.left })
+    keep_laying r
+    (record { store = store2; marks = w.marks; layout_state_of = w.layout_state_of; render_state_of = w.render_state_of; text = w.text; left = w.left })
 after_made w (rendered args out r store2 marks2 out2) =
     keep_rendering r out2
     (record { store = store2; marks = marks2; layout_state_of = w.layout_state_of; render_state_of = w.render_state_of; text = w.text; left = w.left })

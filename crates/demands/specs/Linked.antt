@@ -1,6 +1,7 @@
--- The functions that other languages link, `rrufthim_check`, `rrufthim_layout`, `rrufthim_render`, `rrufthim_format`, `rrufthim_count`, `rrufthim_write`, `rrufthim_steps` and
--- `rrufthim_batch`. Their answers and states are arrays of so many numbers. What the numbers of an answer tell is an answer of the function in Rattle, and that function's
--- promise holds of it (`LinkedPromises`). So the three demands and the sentences of requests 4, 5 and 7 hold of what is linked. proofs/Linked.antt proves it.
+-- The functions that other languages link, `rrufthim_check`, `rrufthim_layout`, `rrufthim_render`, `rrufthim_format`, `rrufthim_count`,
+-- `rrufthim_write`, `rrufthim_steps` and `rrufthim_batch`. Their answers and states are arrays of so many numbers. What the numbers of an
+-- answer tell is an answer of the function in Rattle, and that function's promise holds of it (`LinkedPromises`). So the three demands and the
+-- sentences of requests 4, 5 and 7 hold of what is linked. proofs/Linked.antt proves it.
 use Rattle.std.specs.Prelude.{◌≡◌, true, cond, List, [], ◌∷◌, ◌++◌, map, ℕ, eqb, length, get_or, take, drop, replicate, Option, None, Some, Result, Ok, Err}
 use Rattle.refusals.specs.Refusals.{Refusal, is_one_of}
 use Rattle.refusals.specs.declared.Reason.{Reason}
@@ -143,10 +144,12 @@ pub record Linked1 : Type 0 where
       → Told reader_numbers (read_refusal (read_all s b)) out2 (Unit {0})
   pub layout : (s b store state args out store2 out2 : List ℕ) → length out ≡ 10
       → Lays s b store state args out store2 out2
-      → Told layout_numbers ((rules_of s b).layout_refusal (layout.to_args (layout_args args)) (layout.to_state (layout_state state)) store) out2 (store2 ≡ store)
+      → Told layout_numbers ((rules_of s b).layout_refusal (layout.to_args (layout_args args)) (layout.to_state (layout_state state)) store) out2
+      (store2 ≡ store)
   pub render : (s b store marks output state args out store2 marks2 output2 out2 : List ℕ) → length out ≡ 8
       → Renders s b store marks output state args out store2 marks2 output2 out2
-      → Told render_numbers ((rules_of s b).render_refusal (render.to_args (render_args args) (length output)) (render.to_state (render_state state)) store marks) out2
+      → Told render_numbers
+      ((rules_of s b).render_refusal (render.to_args (render_args args) (length output)) (render.to_state (render_state state)) store marks) out2
       ((store2 ≡ store) × (marks2 ≡ marks) × (output2 ≡ output))
   pub format : (s b choice output out output2 out2 : List ℕ) → length out ≡ 5 → FormatsFile s b choice output out output2 out2
       → Told file_numbers (file_refusal s b (to_choice (file_choice choice)) (length output)) out2 (output2 ≡ output)
@@ -260,7 +263,8 @@ made_linked (rendered args output out store2 marks2 output2 out2) = made.rendere
 -- what is held is what is due, and so is every answer
 pub record LinkedCut (s b store₀ marks₀ : List ℕ) (calls : List LinkedCall) : Type 0 where
   pub as_due : HeldAsDue s b store₀ marks₀ (map (call_linked s b) calls) (held_linked s b (after_all after_linked (fresh_holder store₀ marks₀) calls))
-  pub answered : map (λ m. answer_made s b (made_linked m)) calls ≡ answers_due (rules_of s b) store₀ marks₀ (at_first (rules_of s b)) (map (call_linked s b) calls)
+  pub answered : map (λ m. answer_made s b (made_linked m)) calls
+      ≡ answers_due (rules_of s b) store₀ marks₀ (at_first (rules_of s b)) (map (call_linked s b) calls)
 
 -- for every list of calls that keep their promise, in which no accepted call reads rows not yet laid out
 abbrev pub Linked3 : Type 0

@@ -1,6 +1,6 @@
--- The text holds every comment, and it is the program that was read: of what each entry writes, by what it promises and nothing else. proofs/Text.antt proves it.
--- What is said of a text: `HoldsFirst`, `IsProgram` and `TextKept` (crates/whole_run/specs/Text.antt); what a program is written of: `tokens_of`
--- (crates/layout_facts/specs/Tokens.antt).
+-- The text holds every comment, and it is the program that was read: of what each entry writes, by what it promises and nothing else.
+-- proofs/Text.antt proves it. What is said of a text: `HoldsFirst`, `IsProgram` and `TextKept` (crates/whole_run/specs/Text.antt); what a
+-- program is written of: `tokens_of` (crates/layout_facts/specs/Tokens.antt).
 use Rattle.std.specs.Prelude.{◌≡◌, true, List, [], ◌∷◌, ◌++◌, map, ℕ, ◌*◌, ◌-◌, length, get_or, take, None, Ok}
 use Rattle.rows.specs.declared.units.Bytes.{Bytes}
 use Rattle.refusals.specs.Refusals.{Refusal}
@@ -58,8 +58,8 @@ ReplyIsTheProgram =
     → IsProgram (source_of frame) (image_of frame) (built (source_of frame) (image_of frame) reference_choice).placed (take n out2)
 
 -- ---- lists of calls
--- `layout_call::layout_call` and `render_call::render_call`: of every list of calls from fresh, refused ones among them, in which no accepted call reads rows not yet laid
--- out, at every moment
+-- `layout_call::layout_call` and `render_call::render_call`: of every list of calls from fresh, refused ones among them, in which no accepted
+-- call reads rows not yet laid out, at every moment
 abbrev pub CallsAreTheProgram : Type 0
 CallsAreTheProgram =
     (s b store₀ marks₀ : List ℕ) (made : List Made) → AllKept after_made (Promised s b) (fresh_caller store₀ marks₀) made
@@ -73,8 +73,8 @@ LinkedCallsAreTheProgram =
     → AllReadLaid (rules_of s b) (start (rules_of s b) store₀ marks₀) (map (call_linked s b) made)
     → TextKept s b (held_linked s b (after_all after_linked (fresh_holder store₀ marks₀) made))
 
--- What that says of the comments alone, of either: once all rows laid out are rendered the text holds as many as are placed, and, where the document is closed in the new
--- mode, the whole list.
+-- What that says of the comments alone, of either: once all rows laid out are rendered the text holds as many as are placed, and, where the
+-- document is closed in the new mode, the whole list.
 abbrev pub CallsHold : Type 0
 CallsHold = (s b : List ℕ) (w : Carried (rules_of s b)) → TextKept s b w → AllRendered s b w → HoldsFirst s b w.layout_state_of.cursor.placed w.text
 

@@ -1,6 +1,6 @@
 -- From a call's promise and the numbers that are put out to what an exported function leaves.
 -- Assumes nothing.
-use Rattle.std.proofs.Common.{◌≡◌, refl, sym, ap, ◌∙◌, List, [], ◌∷◌, ◌++◌, ℕ, suc, ◌+◌, ◌<◌, Result, Ok, Err, length, set, take, drop, arith}
+use Rattle.std.proofs.Common.{◌≡◌, sym, List, [], ◌∷◌, ◌++◌, ℕ, ◌<◌, length, set, take, drop, arith}
 use lib.Seq.{sets}
 use Rattle.refusals.proofs.Answers.{sets_front}
 

@@ -10,7 +10,8 @@ use Rattle.render_call.specs.Calls as rendering
 use Rattle.file.specs.Whole as whole
 use Rattle.image.specs.Read.{read_all, outcome}
 use Rattle.figures.specs.Figures.{count_answer}
-use Rattle.exports.specs.Numbers.{layout_state, layout_args, render_state, render_args, file_choice, told_document, told_call, told_file, tallies_from, told_counted}
+use Rattle.exports.specs.Numbers.{layout_state, layout_args, render_state, render_args, file_choice}
+use Rattle.exports.specs.Numbers.{told_document, told_call, told_file, tallies_from, told_counted}
 
 -- the reader's check: the answer's numbers
 abbrev pub ChecksFile : List ℕ → List ℕ → List ℕ → List ℕ → Type 0
@@ -29,8 +30,10 @@ pub record Lays (s b store state args out store2 out2 : List ℕ) : Type 0 where
 -- a rendering call: the store as it was, marks, output, and the answer's numbers
 pub record Renders (s b store marks output state args out store2 marks2 output2 out2 : List ℕ) : Type 0 where
   pub store_left_of : store2 ≡ store
-  pub marks_left_of : marks2 ≡ render_marks (rules_of s b) (rendering.to_args (render_args args) (length output)) (rendering.to_state (render_state state)) store marks
-  pub output_left_of : output2 ≡ render_output (rules_of s b) (rendering.to_args (render_args args) (length output)) (rendering.to_state (render_state state)) store marks output
+  pub marks_left_of : marks2
+      ≡ render_marks (rules_of s b) (rendering.to_args (render_args args) (length output)) (rendering.to_state (render_state state)) store marks
+  pub output_left_of : output2
+      ≡ render_output (rules_of s b) (rendering.to_args (render_args args) (length output)) (rendering.to_state (render_state state)) store marks output
   pub told_as : out2
       ≡ numbers_of (told_call s b)
       (render_answer (rules_of s b) (rendering.to_args (render_args args) (length output)) (rendering.to_state (render_state state)) store marks)

@@ -12,6 +12,7 @@ pub fn rrufthim_write_s1(steps: &[u8], output: &mut [u8], out: &mut [u64; 2])
 }
 
 // Writes the steps of an image to the start of the output. `out` gets the refusal's number and place, or 0 and the bytes of the steps.
+// kept: C lends what is lent one by one.
 pub fn rrufthim_steps_s1(source: &[u8], image: &[u8], output: &mut [u8], out: &mut [u64; 2])
     ensures { ListsSteps source.now image.now output.old out.old output.new out.new }
 {

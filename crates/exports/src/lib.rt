@@ -68,6 +68,7 @@ pub fn rrufthim_layout_s1(
 
 // A rendering call. The state: indent, next indent, column, marks in use, next row, width. The arguments: the row to stop before, and the
 // width. `out` gets the refusal's number and place, or 0, the bytes written and the new state.
+// kept: C lends what is lent one by one.
 pub fn rrufthim_render_s1(
     source: &[u8],
     image: &[u8],
@@ -88,6 +89,7 @@ pub fn rrufthim_render_s1(
 
 // The run of one file: all is laid out and rendered, in rows and marks of its own. The choice: the width and the mode. `out` gets the refusal's
 // number and place, or 0, the bytes written, the comments left, the rows and the group numbers.
+// kept: C lends what is lent one by one.
 pub fn rrufthim_format_s1(
     source: &[u8],
     image: &[u8],

@@ -31,6 +31,7 @@ pub extern "C" fn rrufthim_layout_s1(
     exports::rrufthim_layout_s1(source, image, store, state, args, out);
 }
 
+// kept: C lends what is lent one by one.
 #[unsafe(no_mangle)]
 pub extern "C" fn rrufthim_render_s1(
     source: &[u8],
@@ -47,6 +48,7 @@ pub extern "C" fn rrufthim_render_s1(
     exports::rrufthim_render_s1(source, image, store, marks, output, state, args, out);
 }
 
+// kept: C lends what is lent one by one.
 #[unsafe(no_mangle)]
 pub extern "C" fn rrufthim_format_s1(
     source: &[u8],
@@ -86,6 +88,7 @@ pub extern "C" fn rrufthim_write_s1(steps: &[u8], output: &mut [u8], out: &mut [
     exports::generator::rrufthim_write_s1(steps, output, out);
 }
 
+// kept: C lends what is lent one by one.
 #[unsafe(no_mangle)]
 pub extern "C" fn rrufthim_steps_s1(
     source: &[u8],

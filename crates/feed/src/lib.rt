@@ -60,6 +60,7 @@ fn read_front<R: io::Read>(input: &mut R, b: &mut [u8]) -> Result<usize, Cut>
 }
 
 // Reads bytes that are not kept.
+// kept: the pieces are of two sizes and each may fail; steps over a range would need the last one's size besides.
 fn pass_over<R: io::Read>(input: &mut R, n: usize) -> Result<usize, Cut>
     ensures { Arrives n result }
 {

@@ -103,7 +103,8 @@ module _ (s b : List ℕ) where
     pub run_refused : (t : Tallies) (w : Refused) → r ≡ Err w → counted_answer (Err w) ≡ count_answer s b t
     run_refused t w e =
         file_refused t w
-        (refused_by (file_refusal s b reference_choice FILE_OUTPUT) _ (refusal w) (ap (λ (x : Result Run Refused). formatted_answer (formatted_of x)) (sym e) ∙ answered))
+        (refused_by (file_refusal s b reference_choice FILE_OUTPUT) _ (refusal w)
+        (ap (λ (x : Result Run Refused). formatted_answer (formatted_of x)) (sym e) ∙ answered))
 
     module _ (u : Run) (is : r ≡ Ok u) where
       known : AcceptedBy (file_refusal s b reference_choice FILE_OUTPUT) (to_result u.text)
@@ -180,7 +181,8 @@ module _ (s b : List ℕ) where
           figures_due =
               let e = n ∙ ap (occurs 0x0A) text_due in
               let g = w ∙ wrapped_due in
-              let h : d.comments - u.text.left ≡ (built s b reference_choice).placed = omega (arith, left_due_of, comments_count a, placed_in s b d.tree (stands a)) in
+              let h : d.comments - u.text.left ≡ (built s b reference_choice).placed =
+              omega (arith, left_due_of, comments_count a, placed_in s b d.tree (stands a)) in
               λ i.
               record {
                 bytes = bytes_due i;

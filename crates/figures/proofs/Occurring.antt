@@ -1,6 +1,7 @@
 -- How often a byte stands in a list: in two lists, and among cleared marks.
 -- Assumes nothing.
-use Rattle.std.proofs.Common.{◌≡◌, refl, ap, ◌∙◌, ◌==◌, cond, Bool, true, false, List, [], ◌∷◌, ◌++◌, ℕ, zero, suc, ◌+◌, ◌≤◌, length, get_or, drop, replicate, zero-add, arith}
+use Rattle.std.proofs.Common.{◌≡◌, refl, ◌∙◌, ◌==◌, cond, Bool, true, false, List, [], ◌∷◌, ◌++◌, ℕ}
+use Rattle.std.proofs.Common.{zero, suc, ◌+◌, ◌≤◌, length, get_or, drop, replicate, zero-add, arith}
 use Rattle.std.proofs.lemmas.List.Sums.{count_by-le-length, sum_by-append, sum_by-cons}
 use Rattle.figures.specs.Figures.{occurs}
 

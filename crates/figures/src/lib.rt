@@ -44,6 +44,7 @@ fn output() -> [u8; OUTPUT]
 }
 
 // Counts figures with those before, or refuses them with 14.
+#[tactic(auto, using(crate::proofs::Counting::tallies_refused, crate::proofs::Counting::tallies_pass, crate::proofs::Counting::figures_counted))]
 fn count_figures(t: Tallies, f: Figures) -> Result<Counted, Refused>
     requires { Within f }
     ensures { counted_answer result ≡ answer_by (tally_refusal t) (count_result f t) }

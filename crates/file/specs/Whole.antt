@@ -37,7 +37,8 @@ widest_of (Err r) = 0
 
 -- the answer with the greatest column, and store, marks and output at exit, for one source and image and what the caller chose: where the run
 -- stops after the layout call, `store_left` has its rows
-pub record RunsFile (source image : List ℕ) (choice : plain.FileChoice) (store marks out : List ℕ) (r : Result Run Refused) (store2 marks2 out2 : List ℕ) : Type 0 where
+pub record RunsFile (source image : List ℕ) (choice : plain.FileChoice) (store marks out : List ℕ) (r : Result Run Refused)
+    (store2 marks2 out2 : List ℕ) : Type 0 where
   pub answer : formatted_answer (formatted_of r) ≡ answer_in source image choice (rows_in store) (length marks) (length out)
   pub widest : widest_of r ≡ unless (refusal_in source image choice (rows_in store) (length marks) (length out)) 0 (column_due source image choice)
   pub store_left_of : store2 ≡ store_left source image choice store

@@ -63,8 +63,8 @@ pub struct Run {
     pub widest: Columns,
 }
 
-// Nothing is rendered yet.
-fn render_fresh() -> RenderState
+/// Nothing is rendered yet.
+pub fn render_fresh() -> RenderState
     ensures { rendered_state result ≡ render_fresh }
 {
     RenderState {
@@ -155,6 +155,7 @@ pub fn format_file(
 }
 
 /// Formats the file of a frame, as the program does: four bytes source length, source, image.
+#[tactic(auto, using(crate::proofs::Frames::too_long, crate::proofs::Frames::too_short, crate::proofs::Frames::cut_off))]
 pub fn format_frame(frame: &[u8], out: &mut [u8]) -> Result<Text, Refused>
     ensures { FormatsFrame frame.now out.old result out.new }
 {

@@ -1,6 +1,8 @@
 pub mod Texts
 pub mod Table
 pub mod Shapes
+pub mod Known
+pub mod FirstPlace
 pub mod Reading
 pub mod CommentList
 pub mod Whole

@@ -15,8 +15,9 @@ use Rattle.image.specs.Bytes.{be32}
 use Rattle.image.specs.Kinds.{TEXT}
 use Rattle.image.specs.Grammar.{bare, place, after, complete, row_of, row_under_of, first_child}
 use Rattle.image.specs.Read.{Read, got, bad, bind, Head, head_at, stop_at, kind_at, Tree, Trees, absent, node}
-use Rattle.image.specs.Read.{nil, ◌▸◌, opens, skips, child_at, record_at, children_at, open_of, step_of}
-use Rattle.image.specs.declared.records.Opened as declared
+use Rattle.image.specs.Read.{nil, ◌▸◌, opens, skips, child_at, record_at, children_at, step_of}
+use Rattle.image.specs.Open.{Opening, open_of}
+use Rattle.image.specs.declared.records.Reader.{Reader}
 use Rattle.image.proofs.Shapes.{Opened, opened, is_opened, skips_within, kind_range}
 
 -- ---- one record
@@ -48,13 +49,13 @@ pub is_record : (s b : List ℕ) (v left p at end k n f row : ℕ) → Opened s 
     → f ≡ first_child k (at + 13) (at + 4 + n) → row ≡ row_under_of p k → accepted (record { first = f; stop = at + 4 + n; row = row }) ≡ open_of p (opens s b v left p at end)
 is_record s b v left p at end k n f row o ek en ef er = rw (ef, er, ek, en, is_opened o)
 
-pub record Opens (s b : List ℕ) (v left p at end : ℕ) (o : declared.Opened) : Type 0 where
+pub record Opens (s b : List ℕ) (v left p at end : ℕ) (o : Opening) : Type 0 where
   pub held : Opened s b v left p at end
   pub first : o.first ≡ (head_at b at).first
   pub stop : o.stop ≡ stop_at b at
   pub rows : o.row ≡ row_under_of p (kind_at b at)
 
-pub open_record : (s b : List ℕ) (v left p at end : ℕ) (o : declared.Opened) → open_of p (opens s b v left p at end) ≡ accepted o
+pub open_record : (s b : List ℕ) (v left p at end : ℕ) (o : Opening) → open_of p (opens s b v left p at end) ≡ accepted o
     → Opens s b v left p at end o
 open_record s b v left p at end i e = go (opens s b v left p at end) refl e
   where
@@ -120,6 +121,13 @@ rest_next one n row stop (got t k) q e =
     keeps (λ ts. t ▸ ts) (children_at one n (after row) k stop) ∙ ap (λ (j : ℕ). step_of (children_at one n (after row) j stop)) same
 rest_next one n row stop (bad k p) q e = let z : ◌≡◌ {A = ℕ} 0 1 = cc in absurd (omega arith)
 
+-- the reader h has moved on from r: its place is another, and nothing else
+pub record Here (r h : Reader) : Type 0 where
+  pub source : h.source.now ≡ r.source.now
+  pub image : h.image.now ≡ r.image.now
+  pub left : h.left ≡ r.left
+  pub end : h.end ≡ r.end
+
 -- The whole reading of the children ends as the reading from here on does, with turns enough for the bytes that are left.
 pub record Going (one : ℕ → ℕ → ℕ → Read Tree) (whole : Answer ℕ) (row at stop : ℕ) : Type 0 where
   pub turns : ℕ
@@ -172,7 +180,7 @@ children_end one (suc n) row at stop =
     (λ t next. map_ends stop (children_at one n (after row) next stop) t (children_end one n (after row) next stop))))
     (cond_ends stop (complete row) (got nil stop) (bad 4 at) refl tt)
 
-pub record_steps : (s b : List ℕ) (v left p at end : ℕ) (i : declared.Opened) → Opens s b v left p at end i
+pub record_steps : (s b : List ℕ) (v left p at end : ℕ) (i : Opening) → Opens s b v left p at end i
     → step_of (record_at s b v left p at end) ≡ step_of (children_at (child_at s b v (left - 1)) (suc (length b)) i.row i.first i.stop)
 record_steps s b v zero p at end i o = absurd (o.held.more refl)
 record_steps s b v (suc left) p at end i o =

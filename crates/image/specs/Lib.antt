@@ -1,7 +1,10 @@
 pub mod Bytes
 pub mod Limits
 pub mod Kinds
+pub mod KindNumbers
 pub mod Grammar
+pub mod Places
 pub mod Unpacked
 pub mod Read
+pub mod Open
 pub mod Write

@@ -10,7 +10,6 @@ use Rattle.text.specs.Newlines.{is_range}
 use Rattle.image.specs.Bytes.{be16, be32}
 use Rattle.image.specs.Limits.{MAX_SOURCE, MAX_BODY, MAX_COMMENTS, MAX_RECORDS_DEEP}
 use Rattle.image.specs.Grammar.{is_optional, bare, place, after, complete, row_under_of, kind_fits_of, payload_fits, first_child}
-use Rattle.image.specs.declared.records.Opened.{Opened}
 use Rattle.image.specs.declared.Document.{Document}
 
 -- ---- what is read
@@ -197,11 +196,7 @@ abbrev pub ReadNumbers : Type 0
 ReadNumbers = (s b : List ℕ) (n p : ℕ) → read_all s b ≡ bad n p → is_one_of n reader_numbers ≡ true
 
 -- ---- the code's answers to a part
--- where the reading of a part goes on, and what the reading of one record's head at place p gives
+-- where the reading of a part goes on
 abbrev pub step_of : {A : Type 0} → Read A → Answer ℕ
 step_of (got a n) = accepted n
 step_of (bad n p) = refused (record { number = n; place = p })
-
-abbrev pub open_of : ℕ → Read Head → Answer Opened
-open_of p (got h first) = accepted (record { first = first; stop = h.stop; row = row_under_of p h.kind })
-open_of p (bad n q) = refused (record { number = n; place = q })

@@ -5,13 +5,8 @@ ghost use Rattle.image.specs.Read.{comment_fits, comments_from, comments, step_o
 
 use crate::bytes::{num16, num32};
 use crate::limits::MAX_COMMENTS;
+use crate::sizes::{HEADER, PAIR, PAIRS};
 use refusals::{Reason, Refused};
-
-// How many bytes a comment has.
-const PAIR: usize = 8;
-
-// Where the comments start: behind the header and their number.
-const PAIRS: usize = 7;
 
 // Whether the pair at `at` is a comment.
 #[tactic(auto, unfolding(crate::specs::Read::comment_fits))]
@@ -43,14 +38,14 @@ pub(crate) fn read_comments(source: &[u8], image: &[u8]) -> Result<usize, Refuse
     ensures { answer_of (λ n. n) result ≡ step_of (comments false source.now image.now) }
 {
     if image.len() < PAIRS {
-        return Err(Reason::Comments.at(5));
+        return Err(Reason::Comments.at(HEADER));
     }
-    let count = num16(image, 5);
+    let count = num16(image, HEADER);
     if MAX_COMMENTS < count {
-        return Err(Reason::Comments.at(5));
+        return Err(Reason::Comments.at(HEADER));
     }
     if image.len() < PAIRS + PAIR * count {
-        return Err(Reason::Comments.at(5));
+        return Err(Reason::Comments.at(HEADER));
     }
     comments_from(source, image, count)
 }

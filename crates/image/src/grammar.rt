@@ -1,271 +1,347 @@
-// Which payload and which children a record has, kind by kind. A place is a number: the lowest kind allowed, 128 times the number of
-// kinds above it that are allowed too, and marks. A row is a record's places in order, 65536 apart.
-ghost use Rattle.std.specs.Prelude.{◌≡◌, ◌+◌, ◌/◌, ◌%◌, ◌≤◌, ◌<◌, ◌^◌, eqb, length};
+// Which payload and which children a record has, kind by kind.
+ghost use Rattle.std.specs.Prelude.{◌≡◌, ◌+◌, ◌≤◌, ◌<◌, ◌^◌, length};
 ghost use Rattle.text.specs.Utf8.{well_formed};
 ghost use Rattle.image.specs.Bytes.{part};
-ghost use Rattle.image.specs.Grammar.{row_of, row_under_of, kind_fits_of, has_byte, top_byte, payload_fits, first_child, is_optional, bare, place, after, complete};
+ghost use Rattle.image.specs.Grammar.{row_of, row_under_of, kind_fits_of, top_byte, payload_fits, first_child, is_optional, bare, after, complete};
+ghost use Rattle.image.specs.KindNumbers.{kind_number};
+ghost use Rattle.image.specs.Places.{due_number, place_number, row_number};
 
-use crate::kinds::{
-    ACCESS, ARM, ASSIGN, BIN_OP, BLOCK, BLOCK_EXPR, COMPOUND_ASSIGN, CONST, ENUM, ENUM_VARIANT,
-    EXPR_PART, EXPR_STMT, F_STRING, FIELD, FILTER_MAP, FOR, FUNCTION, FUNCTION_CALL, IF_ELSE,
-    IMPORT, IMPORT_STMT, LET, LIST, LIST_EXPR, LITERAL, LITERAL_EXPR, MATCH, NAME_AND_TYPE, NEGATE,
-    NOT, OPERATOR, OPTION, PARENTHESES, PATH, PATH_EXPR, QUESTION_MARK, RECORD, RECORD_EXPR,
-    RECORD_FIELDS, RECORD_TYPE, RETURN, TEST, TEXT, TEXT_PART, TREE, TYPE_PATH, TYPED_RECORD,
-    UNDERSCORE, VARIANT, WHILE,
-};
+use crate::kinds::Kind;
+use crate::sizes::WIDTH;
+use Place::{Many, One, Optional};
 
-const B: usize = 65536;
+// What may stand where a child is due: a record of one kind, or of one of several.
+#[derive(Clone, Copy, Debug, PartialEq, Eq)]
+pub enum Due {
+    Tree,
+    Text,
+    Path,
+    Import,
+    NameAndType,
+    Variant,
+    Field,
+    Block,
+    RecordFields,
+    Arm,
+    Operator,
+    // of a compound assignment
+    AssignOperator,
+    Literal,
+    // any of these
+    Declaration,
+    Statement,
+    Type,
+    Expr,
+    Pattern,
+    StringPart,
+    // a list of such
+    Texts,
+    Imports,
+    NamesAndTypes,
+    Variants,
+    Arms,
+    Statements,
+    Types,
+    Exprs,
+    StringParts,
+}
 
-const C: usize = B * B;
+// The lowest and the highest of the numbers of kinds that may stand somewhere.
+#[derive(Clone, Copy)]
+struct Range {
+    low: u8,
+    high: u8,
+}
 
-const D: usize = C * B;
+// In the order of `Due`. (A constant would be copied at each use.)
+static RANGES: [Range; 28] = [
+    Range {
+        low: Kind::Tree as u8,
+        high: Kind::Tree as u8,
+    },
+    Range {
+        low: Kind::Text as u8,
+        high: Kind::Text as u8,
+    },
+    Range {
+        low: Kind::Path as u8,
+        high: Kind::Path as u8,
+    },
+    Range {
+        low: Kind::Import as u8,
+        high: Kind::Import as u8,
+    },
+    Range {
+        low: Kind::NameAndType as u8,
+        high: Kind::NameAndType as u8,
+    },
+    Range {
+        low: Kind::Variant as u8,
+        high: Kind::Variant as u8,
+    },
+    Range {
+        low: Kind::Field as u8,
+        high: Kind::Field as u8,
+    },
+    Range {
+        low: Kind::Block as u8,
+        high: Kind::Block as u8,
+    },
+    Range {
+        low: Kind::RecordFields as u8,
+        high: Kind::RecordFields as u8,
+    },
+    Range {
+        low: Kind::Arm as u8,
+        high: Kind::Arm as u8,
+    },
+    Range {
+        low: Kind::Operator as u8,
+        high: Kind::Operator as u8,
+    },
+    Range {
+        low: Kind::Operator as u8,
+        high: Kind::Operator as u8,
+    },
+    Range {
+        low: Kind::Literal as u8,
+        high: Kind::Literal as u8,
+    },
+    Range {
+        low: Kind::FilterMap as u8,
+        high: Kind::Import as u8,
+    },
+    Range {
+        low: Kind::Let as u8,
+        high: Kind::ExprStmt as u8,
+    },
+    Range {
+        low: Kind::Option as u8,
+        high: Kind::RecordType as u8,
+    },
+    Range {
+        low: Kind::Return as u8,
+        high: Kind::Parentheses as u8,
+    },
+    Range {
+        low: Kind::Underscore as u8,
+        high: Kind::EnumVariant as u8,
+    },
+    Range {
+        low: Kind::TextPart as u8,
+        high: Kind::ExprPart as u8,
+    },
+    Range {
+        low: Kind::List as u8,
+        high: Kind::List as u8,
+    },
+    Range {
+        low: Kind::List as u8,
+        high: Kind::List as u8,
+    },
+    Range {
+        low: Kind::List as u8,
+        high: Kind::List as u8,
+    },
+    Range {
+        low: Kind::List as u8,
+        high: Kind::List as u8,
+    },
+    Range {
+        low: Kind::List as u8,
+        high: Kind::List as u8,
+    },
+    Range {
+        low: Kind::List as u8,
+        high: Kind::List as u8,
+    },
+    Range {
+        low: Kind::List as u8,
+        high: Kind::List as u8,
+    },
+    Range {
+        low: Kind::List as u8,
+        high: Kind::List as u8,
+    },
+    Range {
+        low: Kind::List as u8,
+        high: Kind::List as u8,
+    },
+];
 
-// How many bytes a text's width has.
-pub(crate) const WIDTH: usize = 2;
+impl Due {
+    // Whether a record of the kind with this number is right here.
+    pub fn fits(self, kind: u8) -> bool
+        ensures { result ≡ kind_fits_of (due_number self) kind }
+    {
+        let range = RANGES[self as usize];
+        range.low <= kind && kind <= range.high
+    }
 
-// a list of such
-const LIST_OF: usize = 4096;
+    // The places of the children of a record of this kind that stands here.
+    #[tactic(auto, unfolding(crate::specs::Grammar::row_under_of))]
+    pub fn row_under(self, kind: Kind) -> &'static [Place]
+        ensures { row_number result.now ≡ row_under_of (due_number self) (kind_number kind) }
+    {
+        match self {
+            Due::Texts => &[Many(Due::Text)],
+            Due::Imports => &[Many(Due::Import)],
+            Due::NamesAndTypes => &[Many(Due::NameAndType)],
+            Due::Variants => &[Many(Due::Variant)],
+            Due::Arms => &[Many(Due::Arm)],
+            Due::Statements => &[Many(Due::Statement)],
+            Due::Types => &[Many(Due::Type)],
+            Due::Exprs => &[Many(Due::Expr)],
+            Due::StringParts => &[Many(Due::StringPart)],
+            Due::Tree
+            | Due::Text
+            | Due::Path
+            | Due::Import
+            | Due::NameAndType
+            | Due::Variant
+            | Due::Field
+            | Due::Block
+            | Due::RecordFields
+            | Due::Arm
+            | Due::Operator
+            | Due::AssignOperator
+            | Due::Literal
+            | Due::Declaration
+            | Due::Statement
+            | Due::Type
+            | Due::Expr
+            | Due::Pattern
+            | Due::StringPart => places(kind),
+        }
+    }
 
-// an operator of a compound assignment
-const UNDER_ASSIGN: usize = 8192;
+    // The largest payload byte of a record of this kind that stands here, where it has one.
+    pub fn top_byte(self, kind: Kind) -> u8
+        ensures { result ≡ top_byte (due_number self) (kind_number kind) }
+    {
+        if kind == Kind::Return {
+            return 2;
+        }
+        if kind == Kind::Literal {
+            return 3;
+        }
+        if self == Due::AssignOperator { 4 } else { 13 }
+    }
+}
 
-// may be absent
-const MAY: usize = 16384;
+// A place among the children of a record.
+#[derive(Clone, Copy, Debug, PartialEq, Eq)]
+pub enum Place {
+    One(Due),
+    Optional(Due),
+    Many(Due),
+}
 
-// any number
-const MANY: usize = 32768;
+impl Place {
+    pub fn due(self) -> Due
+        ensures { due_number result ≡ bare (place_number self) }
+    {
+        match self {
+            One(due) => due,
+            Optional(due) => due,
+            Many(due) => due,
+        }
+    }
 
-const DECLARATIONS: usize = FILTER_MAP + 128 * (IMPORT - FILTER_MAP);
+    // Whether no record need stand here.
+    pub fn is_optional(self) -> bool
+        ensures { result ≡ is_optional (place_number self) }
+    {
+        matches!(self, Optional(_))
+    }
+}
 
-const STATEMENTS: usize = LET + 128 * (EXPR_STMT - LET);
-
-const TYPES: usize = OPTION + 128 * (RECORD_TYPE - OPTION);
-
-const EXPRS: usize = RETURN + 128 * (PARENTHESES - RETURN);
-
-const PATTERNS: usize = UNDERSCORE + 128 * (ENUM_VARIANT - UNDERSCORE);
-
-const STRING_PARTS: usize = TEXT_PART + 128 * (EXPR_PART - TEXT_PART);
-
-// The rows by kind.
-const TREE_ROW: usize = MAY + TEXT + B * (MANY + DECLARATIONS);
-
-const PATH_ROW: usize = TEXT + B * (MANY + TEXT);
-
-const FILTER_MAP_ROW: usize = TEXT + B * (LIST_OF + NAME_AND_TYPE) + C * BLOCK;
-
-const CONST_ROW: usize = TEXT + B * TYPES + C * EXPRS;
-
-const RECORD_ROW: usize = TEXT + B * (MAY + LIST_OF + TEXT) + C * (LIST_OF + NAME_AND_TYPE);
-
-const ENUM_ROW: usize = TEXT + B * (MAY + LIST_OF + TEXT) + C * (LIST_OF + VARIANT);
-
-const FUNCTION_ROW: usize = TEXT + B * (LIST_OF + NAME_AND_TYPE) + C * (MAY + TYPES) + D * BLOCK;
-
-const TEST_ROW: usize = TEXT + B * BLOCK;
-
-const IMPORT_ROW: usize = MAY + PATH + B * (MAY + LIST_OF + IMPORT);
-
-const NAME_AND_TYPE_ROW: usize = TEXT + B * TYPES;
-
-const VARIANT_ROW: usize = TEXT + B * (LIST_OF + TYPES);
-
-const FIELD_ROW: usize = TEXT + B * EXPRS;
-
-const BLOCK_ROW: usize = LIST_OF + STATEMENTS + B * (MAY + EXPRS);
-
-const LET_ROW: usize = TEXT + B * (MAY + TYPES) + C * EXPRS;
-
-const TYPE_PATH_ROW: usize = PATH + B * (MAY + LIST_OF + TYPES);
-
-const RECORD_TYPE_ROW: usize = LIST_OF + NAME_AND_TYPE;
-
-const RETURN_ROW: usize = MAY + EXPRS;
-
-const MATCH_ROW: usize = EXPRS + B * (LIST_OF + ARM);
-
-const FUNCTION_CALL_ROW: usize = EXPRS + B * (LIST_OF + EXPRS);
-
-const ACCESS_ROW: usize = EXPRS + B * TEXT;
-
-const TYPED_RECORD_ROW: usize = PATH + B * RECORD_FIELDS;
-
-const LIST_EXPR_ROW: usize = LIST_OF + EXPRS;
-
-const ASSIGN_ROW: usize = PATH + B * EXPRS;
-
-const COMPOUND_ASSIGN_ROW: usize = PATH + B * (UNDER_ASSIGN + OPERATOR) + C * EXPRS;
-
-const BIN_OP_ROW: usize = EXPRS + B * OPERATOR + C * EXPRS;
-
-const IF_ELSE_ROW: usize = EXPRS + B * BLOCK + C * (MAY + BLOCK);
-
-const WHILE_ROW: usize = EXPRS + B * BLOCK;
-
-const FOR_ROW: usize = TEXT + B * EXPRS + C * BLOCK;
-
-const F_STRING_ROW: usize = LIST_OF + STRING_PARTS;
-
-const RECORD_FIELDS_ROW: usize = MANY + FIELD;
-
-const ARM_ROW: usize = PATTERNS + B * (MAY + EXPRS) + C * EXPRS;
-
-const ENUM_VARIANT_ROW: usize = TEXT + B * (MAY + LIST_OF + TEXT);
-
-// The row of a kind below 50.
+// The places of the children of a record, by its kind; those of a list go by where it stands.
 #[tactic(auto, unfolding(crate::specs::Grammar::row_of))]
-fn low_row(k: usize) -> usize
-    requires { k < 50 }
-    ensures { result ≡ row_of k }
+fn places(kind: Kind) -> &'static [Place]
+    ensures { row_number result.now ≡ row_of (kind_number kind) }
 {
-    match k {
-        TREE => TREE_ROW,
-        PATH => PATH_ROW,
-        FILTER_MAP => FILTER_MAP_ROW,
-        CONST => CONST_ROW,
-        RECORD => RECORD_ROW,
-        ENUM => ENUM_ROW,
-        FUNCTION => FUNCTION_ROW,
-        TEST => TEST_ROW,
-        IMPORT => IMPORT_ROW,
-        NAME_AND_TYPE => NAME_AND_TYPE_ROW,
-        VARIANT => VARIANT_ROW,
-        FIELD => FIELD_ROW,
-        BLOCK => BLOCK_ROW,
-        LET => LET_ROW,
-        IMPORT_STMT => IMPORT,
-        EXPR_STMT => EXPRS,
-        OPTION => TYPES,
-        TYPE_PATH => TYPE_PATH_ROW,
-        RECORD_TYPE => RECORD_TYPE_ROW,
-        _ => 0,
+    match kind {
+        Kind::Tree => &[Optional(Due::Text), Many(Due::Declaration)],
+        Kind::Path => &[One(Due::Text), Many(Due::Text)],
+        Kind::FilterMap => &[One(Due::Text), One(Due::NamesAndTypes), One(Due::Block)],
+        Kind::Const => &[One(Due::Text), One(Due::Type), One(Due::Expr)],
+        Kind::Record => &[
+            One(Due::Text),
+            Optional(Due::Texts),
+            One(Due::NamesAndTypes),
+        ],
+        Kind::Enum => &[One(Due::Text), Optional(Due::Texts), One(Due::Variants)],
+        Kind::Function => &[
+            One(Due::Text),
+            One(Due::NamesAndTypes),
+            Optional(Due::Type),
+            One(Due::Block),
+        ],
+        Kind::Test => &[One(Due::Text), One(Due::Block)],
+        Kind::Import => &[Optional(Due::Path), Optional(Due::Imports)],
+        Kind::NameAndType => &[One(Due::Text), One(Due::Type)],
+        Kind::Variant => &[One(Due::Text), One(Due::Types)],
+        Kind::Field => &[One(Due::Text), One(Due::Expr)],
+        Kind::Block => &[One(Due::Statements), Optional(Due::Expr)],
+        Kind::Let => &[One(Due::Text), Optional(Due::Type), One(Due::Expr)],
+        Kind::ImportStmt => &[One(Due::Import)],
+        Kind::ExprStmt
+        | Kind::Not
+        | Kind::Negate
+        | Kind::QuestionMark
+        | Kind::Parentheses
+        | Kind::ExprPart => &[One(Due::Expr)],
+        Kind::Option => &[One(Due::Type)],
+        Kind::TypePath => &[One(Due::Path), Optional(Due::Types)],
+        Kind::RecordType => &[One(Due::NamesAndTypes)],
+        Kind::Return => &[Optional(Due::Expr)],
+        Kind::LiteralExpr => &[One(Due::Literal)],
+        Kind::BlockExpr => &[One(Due::Block)],
+        Kind::Match => &[One(Due::Expr), One(Due::Arms)],
+        Kind::FunctionCall => &[One(Due::Expr), One(Due::Exprs)],
+        Kind::Access => &[One(Due::Expr), One(Due::Text)],
+        Kind::PathExpr => &[One(Due::Path)],
+        Kind::RecordExpr => &[One(Due::RecordFields)],
+        Kind::TypedRecord => &[One(Due::Path), One(Due::RecordFields)],
+        Kind::ListExpr => &[One(Due::Exprs)],
+        Kind::Assign => &[One(Due::Path), One(Due::Expr)],
+        Kind::CompoundAssign => &[One(Due::Path), One(Due::AssignOperator), One(Due::Expr)],
+        Kind::BinOp => &[One(Due::Expr), One(Due::Operator), One(Due::Expr)],
+        Kind::IfElse => &[One(Due::Expr), One(Due::Block), Optional(Due::Block)],
+        Kind::While => &[One(Due::Expr), One(Due::Block)],
+        Kind::For => &[One(Due::Text), One(Due::Expr), One(Due::Block)],
+        Kind::FString => &[One(Due::StringParts)],
+        Kind::RecordFields => &[Many(Due::Field)],
+        Kind::Arm => &[One(Due::Pattern), Optional(Due::Expr), One(Due::Expr)],
+        Kind::EnumVariant => &[One(Due::Text), Optional(Due::Texts)],
+        Kind::Text
+        | Kind::List
+        | Kind::Never
+        | Kind::Unit
+        | Kind::Underscore
+        | Kind::TextPart
+        | Kind::Operator
+        | Kind::Literal => &[],
     }
 }
 
-// The row of an expression's kind, or of a part of one.
-#[tactic(auto, unfolding(crate::specs::Grammar::row_of))]
-fn high_row(k: usize) -> usize
-    requires { 50 ≤ k }
-    ensures { result ≡ row_of k }
+// The places that are left when a child has been read at the first.
+pub fn after_row(row: &'static [Place]) -> &'static [Place]
+    ensures { row_number result.now ≡ after (row_number row.now) }
 {
-    match k {
-        RETURN => RETURN_ROW,
-        LITERAL_EXPR => LITERAL,
-        BLOCK_EXPR => BLOCK,
-        MATCH => MATCH_ROW,
-        FUNCTION_CALL => FUNCTION_CALL_ROW,
-        ACCESS => ACCESS_ROW,
-        PATH_EXPR => PATH,
-        RECORD_EXPR => RECORD_FIELDS,
-        TYPED_RECORD => TYPED_RECORD_ROW,
-        LIST_EXPR => LIST_EXPR_ROW,
-        NOT => EXPRS,
-        ASSIGN => ASSIGN_ROW,
-        COMPOUND_ASSIGN => COMPOUND_ASSIGN_ROW,
-        BIN_OP => BIN_OP_ROW,
-        NEGATE => EXPRS,
-        IF_ELSE => IF_ELSE_ROW,
-        WHILE => WHILE_ROW,
-        FOR => FOR_ROW,
-        QUESTION_MARK => EXPRS,
-        F_STRING => F_STRING_ROW,
-        PARENTHESES => EXPRS,
-        RECORD_FIELDS => RECORD_FIELDS_ROW,
-        ARM => ARM_ROW,
-        ENUM_VARIANT => ENUM_VARIANT_ROW,
-        EXPR_PART => EXPRS,
-        _ => 0,
+    match row {
+        [] => row,
+        [Many(_), ..] => row,
+        [_, rest @ ..] => rest,
     }
-}
-
-fn row_of(k: usize) -> usize
-    ensures { result ≡ row_of k }
-{
-    if k < 50 { low_row(k) } else { high_row(k) }
-}
-
-// Whether a place has a mark.
-fn has_mark(p: usize, mark: usize) -> bool
-    requires { 0 < mark }
-    ensures { result ≡ eqb (p / mark % 2) 1 }
-{
-    p / mark % 2 == 1
-}
-
-// The row of a record of kind k at place p.
-#[tactic(auto, unfolding(crate::specs::Grammar::row_under_of))]
-pub fn row_under(p: usize, k: usize) -> usize
-    ensures { result ≡ row_under_of p k }
-{
-    if has_mark(p, LIST_OF) {
-        MANY + p % LIST_OF
-    } else {
-        row_of(k)
-    }
-}
-
-// The row that is left when a child has been read at the first place.
-pub fn after_row(row: usize) -> usize
-    ensures { result ≡ after row }
-{
-    if has_mark(row, MANY) { row } else { row / B }
 }
 
 // Whether no child is due any more.
-pub fn is_over(row: usize) -> bool
-    ensures { result ≡ complete row }
+pub fn is_over(row: &[Place]) -> bool
+    ensures { result ≡ complete (row_number row.now) }
 {
-    row == 0 || has_mark(row, MANY)
-}
-
-// Whether no record need stand at place p.
-pub fn is_optional(p: usize) -> bool
-    ensures { result ≡ is_optional p }
-{
-    has_mark(p, MAY)
-}
-
-// The first place of a row, and a place without its marks `?` and `*`.
-pub fn place(row: usize) -> usize
-    ensures { result ≡ place row }
-{
-    row % B
-}
-
-pub fn bare(p: usize) -> usize
-    ensures { result ≡ bare p }
-{
-    p % MAY
-}
-
-// Whether kind k is right at place p.
-#[tactic(auto, unfolding(crate::specs::Grammar::kind_fits_of))]
-pub fn kind_fits(p: usize, k: usize) -> bool
-    ensures { result ≡ kind_fits_of p k }
-{
-    if has_mark(p, LIST_OF) {
-        return k == LIST;
-    }
-    p % 128 <= k && k <= p % 128 + p / 128 % 32
-}
-
-// Whether a kind has a payload byte: return, operator, literal.
-pub fn has_byte(k: usize) -> bool
-    ensures { result ≡ has_byte k }
-{
-    k == RETURN || k == OPERATOR || k == LITERAL
-}
-
-// The largest payload byte of such a kind at place p.
-pub fn top_byte(p: usize, k: usize) -> usize
-    ensures { result ≡ top_byte p k }
-{
-    match k {
-        RETURN => 2,
-        LITERAL => 3,
-        _ if has_mark(p, UNDER_ASSIGN) => 4,
-        _ => 13,
-    }
+    matches!(row, [] | [Many(_), ..])
 }
 
 // Whether the bytes from `from` to `to` are well-formed UTF-8.
@@ -277,30 +353,29 @@ pub fn is_text(image: &[u8], from: usize, to: usize) -> bool
     text::utf8::check(&image[from..to]).is_ok()
 }
 
-// Whether what follows the span, from `from` to `stop`, starts with a payload right for kind k at place p.
+// Whether what follows the span, from `from` to `stop`, starts with a payload right for a record of this kind that stands there.
 #[tactic(auto, unfolding(crate::specs::Grammar::payload_fits))]
-pub(crate) fn payload_fits(image: &[u8], p: usize, k: usize, from: usize, stop: usize) -> bool
+pub(crate) fn payload_fits(image: &[u8], due: Due, kind: Kind, from: usize, stop: usize) -> bool
     requires { (from ≤ stop) × (stop ≤ length image.now) }
-    ensures { result ≡ payload_fits image.now 2 p k from stop }
+    ensures { result ≡ payload_fits image.now 2 (due_number due) (kind_number kind) from stop }
 {
-    if k == TEXT {
+    if kind.is_text() {
         return WIDTH <= stop - from && is_text(image, from + WIDTH, stop);
     }
-    if has_byte(k) {
-        return from < stop && usize::from(image[from]) <= top_byte(p, k);
+    if kind.has_byte() {
+        return from < stop && image[from] <= due.top_byte(kind);
     }
     true
 }
 
 // Where the payload ends and the children start.
 #[tactic(auto, unfolding(crate::specs::Grammar::first_child))]
-pub fn first_child(k: usize, from: usize, stop: usize) -> usize
+pub fn first_child(kind: Kind, from: usize, stop: usize) -> usize
     requires { from + 1 < 2 ^ 64 }
-    ensures { result ≡ first_child k from stop }
+    ensures { result ≡ first_child (kind_number kind) from stop }
 {
-    match k {
-        TEXT => stop,
-        _ if has_byte(k) => from + 1,
-        _ => from,
+    if kind.is_text() {
+        return stop;
     }
+    if kind.has_byte() { from + 1 } else { from }
 }

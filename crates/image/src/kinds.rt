@@ -1,121 +1,235 @@
 // The kinds of records, by document 01's names and those of ast.rs.
-// the tree
-pub const TREE: usize = 1;
+ghost use Rattle.std.specs.Prelude.{◌≡◌, eqb};
+ghost use Rattle.image.specs.Grammar.{has_byte};
+ghost use Rattle.image.specs.Kinds.{TEXT};
+ghost use Rattle.image.specs.KindNumbers.{kind_number, kind_of};
 
-// a text: its width, then its bytes
-pub const TEXT: usize = 2;
+#[derive(Clone, Copy, Debug, PartialEq, Eq)]
+pub enum Kind {
+    // the tree
+    Tree = 1,
+    // a text: its width, then its bytes
+    Text = 2,
+    // a list
+    List = 3,
+    // a path
+    Path = 4,
+    // declarations: `filtermap`
+    FilterMap = 10,
+    Const = 11,
+    Record = 12,
+    Enum = 13,
+    // `fn`
+    Function = 14,
+    Test = 15,
+    // also the path of an import within another
+    Import = 16,
+    // a parameter, or a field of a record type
+    NameAndType = 20,
+    // of an enum
+    Variant = 21,
+    // of a record
+    Field = 22,
+    Block = 23,
+    // statements
+    Let = 30,
+    ImportStmt = 31,
+    ExprStmt = 32,
+    // types
+    Option = 40,
+    TypePath = 41,
+    Never = 42,
+    Unit = 43,
+    RecordType = 44,
+    // expressions, in the order of `Expr`
+    Return = 50,
+    LiteralExpr = 51,
+    BlockExpr = 52,
+    Match = 53,
+    FunctionCall = 54,
+    Access = 55,
+    PathExpr = 56,
+    RecordExpr = 57,
+    TypedRecord = 58,
+    ListExpr = 59,
+    Not = 60,
+    Assign = 61,
+    CompoundAssign = 62,
+    BinOp = 63,
+    Negate = 64,
+    IfElse = 65,
+    While = 66,
+    For = 67,
+    QuestionMark = 68,
+    FString = 69,
+    Parentheses = 70,
+    // parts of expressions: the fields of a record
+    RecordFields = 80,
+    // of a match
+    Arm = 81,
+    // patterns
+    Underscore = 82,
+    EnumVariant = 83,
+    // parts of an f-string
+    TextPart = 84,
+    ExprPart = 85,
+    Operator = 86,
+    Literal = 87,
+}
 
-// a list
-pub const LIST: usize = 3;
+impl Kind {
+    // Its byte in an image.
+    // kept: a cast: the enum has the numbers already, and a `match` would say them again.
+    pub fn number(self) -> u8
+        ensures { result ≡ kind_number self }
+    {
+        self as u8
+    }
 
-// a path
-pub const PATH: usize = 4;
+    // Whether a record of this kind is a text.
+    pub fn is_text(self) -> bool
+        ensures { result ≡ eqb (kind_number self) TEXT }
+    {
+        self == Kind::Text
+    }
 
-// declarations: `filtermap`
-pub const FILTER_MAP: usize = 10;
+    // Whether it has a payload byte.
+    pub fn has_byte(self) -> bool
+        ensures { result ≡ has_byte (kind_number self) }
+    {
+        self == Kind::Return || self == Kind::Operator || self == Kind::Literal
+    }
 
-pub const CONST: usize = 11;
+    // The kind of a byte, if it is one's.
+    #[tactic(auto, unfolding(crate::specs::KindNumbers::kind_of))]
+    pub fn of(byte: u8) -> Option<Kind>
+        ensures { result ≡ kind_of byte }
+    {
+        match byte {
+            1 => Some(Kind::Tree),
+            2 => Some(Kind::Text),
+            3 => Some(Kind::List),
+            4 => Some(Kind::Path),
+            10 => Some(Kind::FilterMap),
+            11 => Some(Kind::Const),
+            12 => Some(Kind::Record),
+            13 => Some(Kind::Enum),
+            14 => Some(Kind::Function),
+            15 => Some(Kind::Test),
+            16 => Some(Kind::Import),
+            20 => Some(Kind::NameAndType),
+            21 => Some(Kind::Variant),
+            22 => Some(Kind::Field),
+            23 => Some(Kind::Block),
+            30 => Some(Kind::Let),
+            31 => Some(Kind::ImportStmt),
+            32 => Some(Kind::ExprStmt),
+            40 => Some(Kind::Option),
+            41 => Some(Kind::TypePath),
+            42 => Some(Kind::Never),
+            43 => Some(Kind::Unit),
+            44 => Some(Kind::RecordType),
+            50 => Some(Kind::Return),
+            51 => Some(Kind::LiteralExpr),
+            52 => Some(Kind::BlockExpr),
+            53 => Some(Kind::Match),
+            54 => Some(Kind::FunctionCall),
+            55 => Some(Kind::Access),
+            56 => Some(Kind::PathExpr),
+            57 => Some(Kind::RecordExpr),
+            58 => Some(Kind::TypedRecord),
+            59 => Some(Kind::ListExpr),
+            60 => Some(Kind::Not),
+            61 => Some(Kind::Assign),
+            62 => Some(Kind::CompoundAssign),
+            63 => Some(Kind::BinOp),
+            64 => Some(Kind::Negate),
+            65 => Some(Kind::IfElse),
+            66 => Some(Kind::While),
+            67 => Some(Kind::For),
+            68 => Some(Kind::QuestionMark),
+            69 => Some(Kind::FString),
+            70 => Some(Kind::Parentheses),
+            80 => Some(Kind::RecordFields),
+            81 => Some(Kind::Arm),
+            82 => Some(Kind::Underscore),
+            83 => Some(Kind::EnumVariant),
+            84 => Some(Kind::TextPart),
+            85 => Some(Kind::ExprPart),
+            86 => Some(Kind::Operator),
+            87 => Some(Kind::Literal),
+            _ => None,
+        }
+    }
+}
 
-pub const RECORD: usize = 12;
+// The kinds that layout goes by, as the number in the image's byte.
+// kept: layout matches the byte. As an `Option` of a kind, the last arm of a match would be reached in two ways, by no kind and by another
+// one, and each would be ruled out by these numbers again.
+pub const FILTER_MAP: usize = Kind::FilterMap as usize;
 
-pub const ENUM: usize = 13;
+pub const CONST: usize = Kind::Const as usize;
 
-// `fn`
-pub const FUNCTION: usize = 14;
+pub const RECORD: usize = Kind::Record as usize;
 
-pub const TEST: usize = 15;
+pub const ENUM: usize = Kind::Enum as usize;
 
-// also the path of an import within another
-pub const IMPORT: usize = 16;
+pub const FUNCTION: usize = Kind::Function as usize;
 
-// a parameter, or a field of a record type
-pub const NAME_AND_TYPE: usize = 20;
+pub const TEST: usize = Kind::Test as usize;
 
-// of an enum
-pub const VARIANT: usize = 21;
+pub const LET: usize = Kind::Let as usize;
 
-// of a record
-pub const FIELD: usize = 22;
+pub const IMPORT_STMT: usize = Kind::ImportStmt as usize;
 
-pub const BLOCK: usize = 23;
+pub const OPTION: usize = Kind::Option as usize;
 
-// statements
-pub const LET: usize = 30;
+pub const TYPE_PATH: usize = Kind::TypePath as usize;
 
-pub const IMPORT_STMT: usize = 31;
+pub const NEVER: usize = Kind::Never as usize;
 
-pub const EXPR_STMT: usize = 32;
+pub const UNIT: usize = Kind::Unit as usize;
 
-// types
-pub const OPTION: usize = 40;
+pub const RETURN: usize = Kind::Return as usize;
 
-pub const TYPE_PATH: usize = 41;
+pub const LITERAL_EXPR: usize = Kind::LiteralExpr as usize;
 
-pub const NEVER: usize = 42;
+pub const BLOCK_EXPR: usize = Kind::BlockExpr as usize;
 
-pub const UNIT: usize = 43;
+pub const MATCH: usize = Kind::Match as usize;
 
-pub const RECORD_TYPE: usize = 44;
+pub const FUNCTION_CALL: usize = Kind::FunctionCall as usize;
 
-// expressions, in the order of `Expr`
-pub const RETURN: usize = 50;
+pub const ACCESS: usize = Kind::Access as usize;
 
-pub const LITERAL_EXPR: usize = 51;
+pub const PATH_EXPR: usize = Kind::PathExpr as usize;
 
-pub const BLOCK_EXPR: usize = 52;
+pub const RECORD_EXPR: usize = Kind::RecordExpr as usize;
 
-pub const MATCH: usize = 53;
+pub const TYPED_RECORD: usize = Kind::TypedRecord as usize;
 
-pub const FUNCTION_CALL: usize = 54;
+pub const LIST_EXPR: usize = Kind::ListExpr as usize;
 
-pub const ACCESS: usize = 55;
+pub const NOT: usize = Kind::Not as usize;
 
-pub const PATH_EXPR: usize = 56;
+pub const ASSIGN: usize = Kind::Assign as usize;
 
-pub const RECORD_EXPR: usize = 57;
+pub const COMPOUND_ASSIGN: usize = Kind::CompoundAssign as usize;
 
-pub const TYPED_RECORD: usize = 58;
+pub const BIN_OP: usize = Kind::BinOp as usize;
 
-pub const LIST_EXPR: usize = 59;
+pub const NEGATE: usize = Kind::Negate as usize;
 
-pub const NOT: usize = 60;
+pub const IF_ELSE: usize = Kind::IfElse as usize;
 
-pub const ASSIGN: usize = 61;
+pub const WHILE: usize = Kind::While as usize;
 
-pub const COMPOUND_ASSIGN: usize = 62;
+pub const FOR: usize = Kind::For as usize;
 
-pub const BIN_OP: usize = 63;
+pub const QUESTION_MARK: usize = Kind::QuestionMark as usize;
 
-pub const NEGATE: usize = 64;
+pub const F_STRING: usize = Kind::FString as usize;
 
-pub const IF_ELSE: usize = 65;
+pub const UNDERSCORE: usize = Kind::Underscore as usize;
 
-pub const WHILE: usize = 66;
-
-pub const FOR: usize = 67;
-
-pub const QUESTION_MARK: usize = 68;
-
-pub const F_STRING: usize = 69;
-
-pub const PARENTHESES: usize = 70;
-
-// parts of expressions: the fields of a record
-pub const RECORD_FIELDS: usize = 80;
-
-// of a match
-pub const ARM: usize = 81;
-
-// patterns
-pub const UNDERSCORE: usize = 82;
-
-pub const ENUM_VARIANT: usize = 83;
-
-// parts of an f-string
-pub const TEXT_PART: usize = 84;
-
-pub const EXPR_PART: usize = 85;
-
-pub const OPERATOR: usize = 86;
-
-pub const LITERAL: usize = 87;
+pub const TEXT_PART: usize = Kind::TextPart as usize;

@@ -7,6 +7,7 @@ pub mod grammar;
 pub mod kinds;
 pub mod limits;
 mod records;
+pub mod sizes;
 
 ghost use Rattle.std.specs.Prelude.{◌≡◌, false, ◌≤◌, length};
 ghost use Rattle.image.specs.Read.{source_fits, header, read_tree, read_image, outcome, Checks};
@@ -14,10 +15,11 @@ ghost use Rattle.refusals.specs.Reasons.{answer_of};
 
 use bytes::{num16, num32};
 use comments::read_comments;
-use kinds::TREE;
+use grammar::Due;
 use limits::{MAX_BODY, MAX_RECORDS_DEEP, MAX_SOURCE};
-use records::Reading;
+use records::Reader;
 use refusals::{Reason, Refused};
+use sizes::HEADER;
 
 // A source and an image that are accepted: how many comments there are, and where the tree stands.
 #[derive(Clone, Copy, Debug, PartialEq, Eq)]
@@ -39,24 +41,30 @@ pub fn source_fits(source: &[u8]) -> bool
 pub fn header_fits(image: &[u8]) -> bool
     ensures { result ≡ header image.now }
 {
-    if image.len() < 5 || image[0] != 1 {
+    if image.len() < HEADER || image[0] != 1 {
         return false;
     }
     let n = num32(image, 1);
-    5 + n == image.len() && n <= MAX_BODY
+    HEADER + n == image.len() && n <= MAX_BODY
 }
 
 fn read_tree(source: &[u8], image: &[u8], at: usize) -> Result<Document, Refused>
     requires { (7 ≤ at) × (at ≤ length image.now) }
     ensures { answer_of (λ d. d) result ≡ outcome (read_tree source.now image.now 2 at) }
 {
-    let reading = Reading { source, image };
-    let next = reading.read_record(MAX_RECORDS_DEEP, TREE, at, image.len())?;
+    let reader = Reader {
+        source,
+        image,
+        left: MAX_RECORDS_DEEP,
+        at,
+        end: image.len(),
+    };
+    let next = reader.read_record(Due::Tree)?;
     if next < image.len() {
         return Err(Reason::Record.at(next));
     }
     Ok(Document {
-        comments: num16(image, 5),
+        comments: num16(image, HEADER),
         tree: at,
     })
 }

@@ -1,194 +1,205 @@
 // Records: refusals 4, 5 and 6, in reading order.
-ghost use Rattle.std.specs.Prelude.{◌≡◌, suc, ◌+◌, ◌≤◌, length};
+ghost use Rattle.std.specs.Prelude.{◌≡◌, cond, suc, ◌+◌, ◌≤◌, length, None};
 ghost use Rattle.refusals.specs.Reasons.{answer_of};
 ghost use Rattle.text.specs.Newlines.{is_range};
 ghost use Rattle.image.specs.Bytes.{be32};
 ghost use Rattle.image.specs.Kinds.{TEXT};
-ghost use Rattle.image.specs.Read.{shape, opens, skips, child_at, record_at, children_at, open_of, step_of};
+ghost use Rattle.image.specs.Places.{due_number, place_number, row_number};
+ghost use Rattle.image.specs.Read.{shape, opens, skips, child_at, record_at, children_at, kind_at, step_of};
+ghost use Rattle.image.specs.Open.{opening_of, open_of};
+ghost use Rattle.image.specs.KindNumbers.{kind_of};
 
 use crate::bytes::num32;
-use crate::grammar::{
-    WIDTH, after_row, bare, first_child, is_optional, is_over, is_text, kind_fits, payload_fits,
-    place, row_under,
-};
-use crate::kinds::TEXT;
+use crate::grammar::{Due, Place, after_row, first_child, is_over, is_text, payload_fits};
+use crate::kinds::Kind;
+use crate::sizes::{HEAD, LENGTH, WIDTH};
 use refusals::{Reason, Refused};
 
-// How many bytes a record's length has, and all before its payload: length, kind and span.
-const LENGTH: usize = 4;
-
-const HEAD: usize = 13;
-
-// What is read: an image, whose spans are those of a source.
+// What is read: the part of an image from `at` up to `end`, where the record around it ends. Spans are those of the source; `left` levels of
+// records are left.
 #[derive(Clone, Copy)]
-pub(crate) struct Reading<'a> {
+pub(crate) struct Reader<'a> {
     pub(crate) source: &'a [u8],
     pub(crate) image: &'a [u8],
+    pub(crate) left: u32,
+    pub(crate) at: usize,
+    pub(crate) end: usize,
+    ghost inside: { (at ≤ end) × (end ≤ length image.now) },
 }
 
-// A record whose children are to be read: where they start, where they stop, and the row of their places.
+// A record whose children are to be read: where they start, where they stop, and their places.
 #[derive(Clone, Copy)]
 pub struct Opened {
     pub first: usize,
     pub stop: usize,
-    pub row: usize,
+    pub row: &'static [Place],
 }
 
-// Whether the record at `at` is not too short, ends by `end`, and has a kind and a payload right at place p.
-#[tactic(auto, unfolding(crate::specs::Read::shape))]
-fn shape_fits(image: &[u8], p: usize, at: usize, end: usize) -> bool
-    requires { (at ≤ end) × (end ≤ length image.now) }
-    ensures { result ≡ shape image.now 2 p at end }
-{
-    if end - at < LENGTH {
-        return false;
+impl Reader<'_> {
+    // The kind of the record here, if it is not too short, ends in time, and has a kind and a payload right where this is due.
+    #[tactic(auto, unfolding(crate::specs::Read::shape))]
+    fn shaped_kind(&self, due: Due) -> Option<Kind>
+        ensures { result
+            ≡ cond (shape self.now.image.now 2 (due_number due) self.now.at self.now.end) (kind_of (kind_at self.now.image.now self.now.at)) None }
+    {
+        if self.end - self.at < LENGTH {
+            return None;
+        }
+        let n = num32(self.image, self.at);
+        if n < 9 || self.end < self.at + LENGTH + n {
+            return None;
+        }
+        let byte = self.image[self.at + LENGTH];
+        if !due.fits(byte) {
+            return None;
+        }
+        let kind = Kind::of(byte)?;
+        payload_fits(self.image, due, kind, self.at + HEAD, self.at + LENGTH + n).then_some(kind)
     }
-    let n = num32(image, at);
-    if n < 9 || end < at + LENGTH + n {
-        return false;
-    }
-    let k = usize::from(image[at + LENGTH]);
-    kind_fits(p, k) && payload_fits(image, p, k, at + HEAD, at + LENGTH + n)
-}
 
-// Whether length 0 stands alone at a place that may be empty.
-#[tactic(auto, unfolding(crate::specs::Read::skips))]
-fn skip_fits(image: &[u8], p: usize, at: usize, end: usize) -> bool
-    requires { (at ≤ end) × (end ≤ length image.now) }
-    ensures { result ≡ skips image.now p at end }
-{
-    is_optional(p) && LENGTH <= end - at && num32(image, at) == 0
-}
-
-// `shape_fits` at a place where only a text may stand.
-#[tactic(auto, unfolding(crate::specs::Read::shape, crate::specs::Grammar::kind_fits_of, crate::specs::Grammar::payload_fits))]
-fn text_fits(image: &[u8], at: usize, end: usize) -> bool
-    requires { (at ≤ end) × (end ≤ length image.now) }
-    ensures { result ≡ shape image.now 2 TEXT at end }
-{
-    if end - at < LENGTH {
-        return false;
+    // Whether length 0 stands alone here, at a place that may be empty.
+    #[tactic(auto, unfolding(crate::specs::Read::skips))]
+    fn skip_fits(&self, place: Place) -> bool
+        ensures { result ≡ skips self.now.image.now (place_number place) self.now.at self.now.end }
+    {
+        place.is_optional() && LENGTH <= self.end - self.at && num32(self.image, self.at) == 0
     }
-    let n = num32(image, at);
-    if n < 9 + WIDTH || end < at + LENGTH + n {
-        return false;
-    }
-    usize::from(image[at + LENGTH]) == TEXT && is_text(image, at + HEAD + WIDTH, at + LENGTH + n)
-}
 
-impl Reading<'_> {
-    // Whether the span of the record at `at` is one of the source.
-    fn span_fits(&self, at: usize) -> bool
-        requires { at + 13 ≤ length self.now.image.now }
-        ensures { result ≡ is_range self.now.source.now (be32 self.now.image.now (at + 5)) (be32 self.now.image.now (at + 9)) }
+    // Whether the record here is a text, not too short, that ends in time.
+    #[tactic(auto, unfolding(crate::specs::Read::shape, crate::specs::Grammar::kind_fits_of, crate::specs::Grammar::payload_fits))]
+    fn text_fits(&self) -> bool
+        ensures { result ≡ shape self.now.image.now 2 TEXT self.now.at self.now.end }
+    {
+        if self.end - self.at < LENGTH {
+            return false;
+        }
+        let n = num32(self.image, self.at);
+        if n < 9 + WIDTH || self.end < self.at + LENGTH + n {
+            return false;
+        }
+        self.image[self.at + LENGTH] == Kind::Text as u8
+            && is_text(self.image, self.at + HEAD + WIDTH, self.at + LENGTH + n)
+    }
+
+    // Whether the span of the record here is one of the source.
+    fn span_fits(&self) -> bool
+        requires { self.now.at + 13 ≤ length self.now.image.now }
+        ensures { result ≡ is_range self.now.source.now (be32 self.now.image.now (self.now.at + 5)) (be32 self.now.image.now (self.now.at + 9)) }
     {
         text::newlines::is_range(
             self.source,
-            num32(self.image, at + 5),
-            num32(self.image, at + 9),
+            num32(self.image, self.at + 5),
+            num32(self.image, self.at + 9),
         )
     }
 
-    // The record at `at`, at place p of a parent that ends at `end`, to its first child; `left` levels of records are left.
-    #[tactic(auto, using(crate::proofs::Shapes::shape_room, crate::proofs::Reading::is_record), unfolding(crate::specs::Read::opens))]
-    fn opening(&self, left: u32, p: usize, at: usize, end: usize) -> Result<Opened, Refused>
-        requires { (at ≤ end) × (end ≤ length self.now.image.now) }
-        ensures { answer_of (λ o. o) result ≡ open_of p (opens self.now.source.now self.now.image.now 2 left p at end) }
+    // Goes on at another place of the same part.
+    fn go_to(&mut self, at: usize)
+        requires { at ≤ self.old.end }
+        ensures same { (self.new.source.now ≡ self.old.source.now) × (self.new.image.now ≡ self.old.image.now) }
+        ensures rest { (self.new.left ≡ self.old.left) × (self.new.at ≡ at) × (self.new.end ≡ self.old.end) }
     {
-        if !shape_fits(self.image, p, at, end) {
-            return Err(Reason::Record.at(at));
+        self.at = at;
+    }
+
+    // The record here, to its first child.
+    fn opening(&self, due: Due) -> Result<Opened, Refused>
+        ensures { answer_of opening_of result
+            ≡ open_of (due_number due) (opens self.now.source.now self.now.image.now 2 self.now.left (due_number due) self.now.at self.now.end) }
+    {
+        let Some(kind) = self.shaped_kind(due) else {
+            return Err(Reason::Record.at(self.at));
+        };
+        if self.left == 0 {
+            return Err(Reason::Depth.at(self.at));
         }
-        if left == 0 {
-            return Err(Reason::Depth.at(at));
+        if !self.span_fits() {
+            return Err(Reason::Span.at(self.at));
         }
-        if !self.span_fits(at) {
-            return Err(Reason::Span.at(at));
-        }
-        let k = usize::from(self.image[at + LENGTH]);
-        let stop = at + LENGTH + num32(self.image, at);
+        let stop = self.at + LENGTH + num32(self.image, self.at);
         Ok(Opened {
-            first: first_child(k, at + HEAD, stop),
+            first: first_child(kind, self.at + HEAD, stop),
             stop,
-            row: row_under(p, k),
+            row: due.row_under(kind),
         })
     }
 
-    // Reads a record where only a text may stand. About half of all records are texts; they have no children, so that nothing is called again.
+    // Reads the record here, where only a text may stand. About half of all records are texts; they have no children, so that nothing is called again.
     #[tactic(auto, using(crate::proofs::Shapes::shape_room))]
-    fn read_text(&self, left: u32, at: usize, end: usize) -> Result<usize, Refused>
-        requires { (at ≤ end) × (end ≤ length self.now.image.now) }
-        ensures { answer_of (λ n. n) result ≡ step_of (record_at self.now.source.now self.now.image.now 2 left TEXT at end) }
+    fn read_text(&self) -> Result<usize, Refused>
+        ensures { answer_of (λ n. n) result
+            ≡ step_of (record_at self.now.source.now self.now.image.now 2 self.now.left TEXT self.now.at self.now.end) }
     {
-        if !text_fits(self.image, at, end) {
-            return Err(Reason::Record.at(at));
+        if !self.text_fits() {
+            return Err(Reason::Record.at(self.at));
         }
-        if left == 0 {
-            return Err(Reason::Depth.at(at));
+        if self.left == 0 {
+            return Err(Reason::Depth.at(self.at));
         }
-        if !self.span_fits(at) {
-            return Err(Reason::Span.at(at));
+        if !self.span_fits() {
+            return Err(Reason::Span.at(self.at));
         }
-        Ok(at + LENGTH + num32(self.image, at))
+        Ok(self.at + LENGTH + num32(self.image, self.at))
     }
 
-    // Reads a child at place p: nothing or a record.
+    // Reads the child here: nothing or a record.
     #[cycle(reading)]
     #[tactic(auto, using(crate::proofs::Shapes::skips_within))]
-    fn read_child(&self, left: u32, p: usize, at: usize, end: usize) -> Result<usize, Refused>
-        requires { (at ≤ end) × (end ≤ length self.now.image.now) }
-        ensures { answer_of (λ n. n) result ≡ step_of (child_at self.now.source.now self.now.image.now 2 left p at end) }
+    fn read_child(&self, place: Place) -> Result<usize, Refused>
+        ensures { answer_of (λ n. n) result
+            ≡ step_of (child_at self.now.source.now self.now.image.now 2 self.now.left (place_number place) self.now.at self.now.end) }
     {
-        if skip_fits(self.image, p, at, end) {
-            return Ok(at + LENGTH);
+        if self.skip_fits(place) {
+            return Ok(self.at + LENGTH);
         }
-        match bare(p) {
-            TEXT => self.read_text(left, at, end),
-            other => self.read_record(left, other, at, end),
+        let due = place.due();
+        if due == Due::Text {
+            return self.read_text();
         }
+        self.read_record(due)
     }
 
-    // Reads a record with all that is in it.
+    // Reads the record here with all that is in it.
     #[cycle(reading)]
-    pub(crate) fn read_record(
-        &self,
-        left: u32,
-        p: usize,
-        at: usize,
-        end: usize,
-    ) -> Result<usize, Refused>
-        requires { (at ≤ end) × (end ≤ length self.now.image.now) }
-        ensures { answer_of (λ n. n) result ≡ step_of (record_at self.now.source.now self.now.image.now 2 left p at end) }
+    pub(crate) fn read_record(&self, due: Due) -> Result<usize, Refused>
+        ensures { answer_of (λ n. n) result
+            ≡ step_of (record_at self.now.source.now self.now.image.now 2 self.now.left (due_number due) self.now.at self.now.end) }
     {
-        let o = self.opening(left, p, at, end)?;
+        let o = self.opening(due)?;
+        // kept: field by field: `..*self` is refused for a struct with a ghost field.
+        let inner = Reader {
+            source: self.source,
+            image: self.image,
+            left: self.left - 1,
+            at: o.first,
+            end: o.stop,
+        };
         // Taken apart by `?` and made anew: a Result that is handed on whole is copied in pieces, which took a tenth of the reading.
-        let next = self.read_children(left - 1, o.row, o.first, o.stop)?;
+        let next = inner.read_children(o.row)?;
         Ok(next)
     }
 
-    // Reads the children of a record, from `first` to `stop`, at the places of a row.
+    // Reads the children of a record, at these places.
     #[cycle(reading)]
-    fn read_children(
-        &self,
-        left: u32,
-        places: usize,
-        first: usize,
-        stop: usize,
-    ) -> Result<usize, Refused>
-        requires { (first ≤ stop) × (stop ≤ length self.now.image.now) }
-        ensures { answer_of (λ n. n) result ≡ step_of (children_at (child_at self.now.source.now self.now.image.now 2 left) (suc (length self.now.image.now)) places first stop) }
+    fn read_children(&self, places: &'static [Place]) -> Result<usize, Refused>
+        ensures { answer_of (λ n. n) result
+            ≡ step_of (children_at (child_at self.now.source.now self.now.image.now 2 self.now.left)
+            (suc (length self.now.image.now)) (row_number places.now) self.now.at self.now.end) }
     {
-        let mut at = first;
+        let mut here = *self;
         let mut row = places;
-        while at < stop {
-            if row == 0 {
-                return Err(Reason::Record.at(at));
-            }
-            at = self.read_child(left, place(row), at, stop)?;
+        // kept: as a loop: where a child ends is read from it, so that no range or iterator has the next place.
+        while here.at < here.end {
+            let Some(place) = row.first() else {
+                return Err(Reason::Record.at(here.at));
+            };
+            let next = here.read_child(*place)?;
+            here.go_to(next);
             row = after_row(row);
         }
         if is_over(row) {
-            return Ok(stop);
+            return Ok(here.end);
         }
-        Err(Reason::Record.at(at))
+        Err(Reason::Record.at(here.at))
     }
 }

@@ -11,6 +11,7 @@ pub fn read_full<R: Read>(input: &mut R, buf: &mut [u8]) -> usize
     ensures { IsPrefixLen result buf.new }
 {
     let mut done = 0;
+    // kept: how far a turn comes is known only once its read is done, so that no range has the places.
     while done < buf.len() {
         match input.read(&mut buf[done..]) {
             Ok(0) | Err(_) => break,

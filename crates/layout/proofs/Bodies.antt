@@ -3,9 +3,9 @@
 use mathlib.Core.Path.{◌≡◌, refl, sym, ap, subst, ◌∙◌}
 use mathlib.Core.Bool.{Bool, true, false, not, ◌&&◌, ◌||◌}
 use mathlib.Core.List.{List}
-use Prim.Native.Nat.{ℕ, ◌+◌, ◌*◌, ◌≤◌, ◌<◌}
+use Prim.Native.Nat.{ℕ, ◌+◌, ◌≤◌, ◌<◌}
 use native.Mathlib.Omega.{arith}
-use lib.ListN.{length, set}
+use lib.ListN.{length}
 use lib.Dec.{eqb, leb}
 use borrow.Author.Tests.{eq-eqb, ne_eqb}
 use Rattle.image.specs.Bytes.{be32}
@@ -17,14 +17,17 @@ use Rattle.tree.specs.FormKinds.{form_kind}
 use Rattle.tree.specs.At.{Ends, ImportAt, ExprAt, MaybeExprAt, BlockAt, StmtsAt, StmtAt, PartsAt}
 use Rattle.rows.specs.Node.{line}
 use Rattle.acts.specs.Act.{Act, ◌⨟◌, push, says, grouped, indented, when, Given}
-use Rattle.acts.specs.Laid.{Room, Opened}
+use Rattle.acts.specs.Laid.{Room}
+use Rattle.acts.specs.Does.{Opening, Marks}
+use Rattle.acts.specs.declared.State.{State}
+use Rattle.acts.specs.declared.parts.Branch.TheVariants.{Group, Indent}
+use Rattle.acts.proofs.Closes.{closes_group, closes_indent}
 use Rattle.acts.specs.declared.Cursor.{Cursor}
 use Rattle.acts.proofs.Laws.{Lays, lays_then, lays_skip, room_first, room_next}
-use Rattle.acts.proofs.Nested.{lays_group, lays_indent}
 use Rattle.comments.specs.Listed.{given}
 use Rattle.layout.specs.Layout.{import_path, is_braced, none_of, is_empty, gap, stmts_rule, stmt_rule}
 use Rattle.layout.specs.Layout.{before_stmt, after_stmt, block_start, block_rule, parts_rule, placeholder}
-use Rattle.layout.specs.Promises.{Has, HasAll, Whole, Readable}
+use Rattle.layout.specs.Promises.{HasIn, HasAllIn, Whole, Readable}
 use Rattle.layout.specs.Forms.{expr_with, stmts_from, last_from, LetAt, let_rule, SpanAt, content_rule, Part, text, PartAt, part_rule}
 use Rattle.layout.specs.Forms as forms
 use Rattle.layout.proofs.Places.{head_whole, expr_whole, stmt_whole}
@@ -93,11 +96,11 @@ module _ (s b : List ℕ) (at : ℕ) where
 
 -- the steps of a block, with its parts
 module _ {s b : List ℕ} {at : ℕ} where
-  pub block_has : {empty : Bool} {c : Cursor} → empty ≡ NoParts b at → Has BlockAt block_rule s b at c → Has BlockAt (block_steps empty) s b at c
+  pub block_has : {empty : Bool} {c : Cursor} → empty ≡ NoParts b at → HasIn BlockAt block_rule s b at c → HasIn BlockAt (block_steps empty) s b at c
   unfolding BlockAt block_rule
   block_has {empty} {c} r h = go h.tree h.held h.room
     where
-      go : (k : Block) → BlockAt s b k at → Room (block_rule (given s b) k) c → Has BlockAt (block_steps empty) s b at c
+      go : (k : Block) → BlockAt s b k at → Room (block_rule (given s b) k) c → HasIn BlockAt (block_steps empty) s b at c
       go (braces p ss last) a room =
           record {
             accepted = h.accepted;
@@ -109,11 +112,11 @@ module _ {s b : List ℕ} {at : ℕ} where
           }
 
   pub body_has : {none empty : Bool} {n : ℕ} {c : Cursor} → none ≡ NoStmts b at → empty ≡ NoParts b at → n ≡ be32 b (at + 9)
-      → Has BlockAt body_rule s b at c → Has BlockPartsAt (body_steps none empty n) s b at c
+      → HasIn BlockAt body_rule s b at c → HasIn BlockPartsAt (body_steps none empty n) s b at c
   unfolding BlockAt
   body_has {none} {empty} {n} {c} q r i h = go h.tree h.held h.room
     where
-      go : (k : Block) → BlockAt s b k at → Room (body_rule (given s b) k) c → Has BlockPartsAt (body_steps none empty n) s b at c
+      go : (k : Block) → BlockAt s b k at → Room (body_rule (given s b) k) c → HasIn BlockPartsAt (body_steps none empty n) s b at c
       go (braces p ss last) a room =
           record {
             accepted = h.accepted;
@@ -125,41 +128,42 @@ module _ {s b : List ℕ} {at : ℕ} where
                 (subst (λ (j : ℕ). Room (body_steps (none_of ss) (is_empty ss last) j (given s b) (p, ss, last)) c) (sym (i ∙ a.0.end)) room));
           }
 
-  pub body_laid : {none empty : Bool} {n : ℕ} {x x₁ x₂ x₃ x₄ x₅ : List ℕ} {c c₁ c₂ c₃ c₄ : Cursor} → none ≡ NoStmts b at → empty ≡ NoParts b at
-      → n ≡ be32 b (at + 9) → Opened 1 0 0 0 x c x₁ c₁
-      → LaysAll StmtsAt (stmts_from true) s b (at + 13 + 13) (stop_at b (at + 13)) x₁ c₁ x₂ c₂
+  pub body_laid : {none empty : Bool} {n : ℕ} {r : ℕ} {x x₁ x₄ x₅ : State} {x₂ x₃ : List ℕ} {c₂ c₃ : Cursor} → none ≡ NoStmts b at → empty ≡ NoParts b at
+      → n ≡ be32 b (at + 9) → Opening Indent x x₁ r
+      → LaysAll StmtsAt (stmts_from true) s b (at + 13 + 13) (stop_at b (at + 13)) x₁.store.now x₁.cursor x₂ c₂
       → LaysAs MaybeExprAt (last_from none) s b (stop_at b (at + 13)) x₂ c₂ x₃ c₃
-      → Lays (gap (given s b) n (not empty) false false) x₃ c₃ x₄ c₄
-      → x₅ ≡ set x₄ (9 * c.row + 4) c₄.row → LaysAs BlockAt body_rule s b at x c x₅ c₄
+      → Lays (gap (given s b) n (not empty) false false) x₃ c₃ x₄.store.now x₄.cursor
+      → Marks 4 r x₄.cursor.row x₄ x₅ → LaysAs BlockAt body_rule s b at x.store.now x.cursor x₅.store.now x₅.cursor
   unfolding BlockAt
-  body_laid {none} {empty} {n} {x} {x₁} {x₂} {x₃} {x₄} {x₅} {c} {c₁} {c₂} {c₃} {c₄} q r i o l m g z = record { of = go }
+  body_laid {none} {empty} {n} {r} {x} {x₁} {x₄} {x₅} {x₂} {x₃} {c₂} {c₃} q e i o l m g z = record { of = go }
     where
-      go : (k : Block) → BlockAt s b k at → Lays (body_rule (given s b) k) x c x₅ c₄
+      go : (k : Block) → BlockAt s b k at → Lays (body_rule (given s b) k) x.store.now x.cursor x₅.store.now x₅.cursor
       go (braces p ss last) a =
           let none' : none ≡ none_of ss = q ∙ none_same s b at ss a.2 in
-          let empty' : empty ≡ is_empty ss last = r ∙ empty_same s b at ss last a.2 a.3 in
-          let g' : Lays (gap (given s b) p.end (not (is_empty ss last)) false false) x₃ c₃ x₄ c₄ =
-          subst (λ (t : Bool). Lays (gap (given s b) p.end (not t) false false) x₃ c₃ x₄ c₄) empty'
-          (subst (λ (j : ℕ). Lays (gap (given s b) j (not empty) false false) x₃ c₃ x₄ c₄) (i ∙ a.0.end) g) in
+          let empty' : empty ≡ is_empty ss last = e ∙ empty_same s b at ss last a.2 a.3 in
+          let g' : Lays (gap (given s b) p.end (not (is_empty ss last)) false false) x₃ c₃ x₄.store.now x₄.cursor =
+          subst (λ (t : Bool). Lays (gap (given s b) p.end (not t) false false) x₃ c₃ x₄.store.now x₄.cursor) empty'
+          (subst (λ (j : ℕ). Lays (gap (given s b) j (not empty) false false) x₃ c₃ x₄.store.now x₄.cursor) (i ∙ a.0.end) g) in
           let m' : Lays (last_from (none_of ss) (given s b) last) x₂ c₂ x₃ c₃ =
           subst (λ (t : Bool). Lays (last_from t (given s b) last) x₂ c₂ x₃ c₃) none' (m.of last a.3) in
-          lays_indent o (lays_then (l.of ss a.2) (lays_then m' g')) z
+          closes_indent o (lays_then (l.of ss a.2) (lays_then m' g')) z
 
-  pub block_laid : {empty : Bool} {x x₁ x₂ x₃ x₄ x₅ x₆ : List ℕ} {c c₁ c₂ c₃ c₄ c₅ : Cursor} → empty ≡ NoParts b at → Opened 0 c.number 0 1 x c x₁ c₁
-      → Lays (block_start empty) x₁ c₁ x₂ c₂ → LaysAs BlockAt body_rule s b at x₂ c₂ x₃ c₃ → Lays (push line) x₃ c₃ x₄ c₄ → Lays (says "}") x₄ c₄ x₅ c₅
-      → x₆ ≡ set x₅ (9 * c.row + 4) c₅.row → LaysAs BlockAt block_rule s b at x c x₆ c₅
+  pub block_laid : {empty : Bool} {r : ℕ} {x x₁ x₅ x₆ : State} {x₂ x₃ x₄ : List ℕ} {c₂ c₃ c₄ : Cursor} → empty ≡ NoParts b at → Opening Group x x₁ r
+      → Lays (block_start empty) x₁.store.now x₁.cursor x₂ c₂ → LaysAs BlockAt body_rule s b at x₂ c₂ x₃ c₃ → Lays (push line) x₃ c₃ x₄ c₄
+      → Lays (says "}") x₄ c₄ x₅.store.now x₅.cursor
+      → Marks 4 r x₅.cursor.row x₅ x₆ → LaysAs BlockAt block_rule s b at x.store.now x.cursor x₆.store.now x₆.cursor
   unfolding BlockAt block_rule
-  block_laid {empty} {x} {x₁} {x₂} {x₃} {x₄} {x₅} {x₆} {c} {c₁} {c₂} {c₃} {c₄} {c₅} r o l m n w z = record { of = go }
+  block_laid {empty} {r} {x} {x₁} {x₅} {x₆} {x₂} {x₃} {x₄} {c₂} {c₃} {c₄} e o l m n w z = record { of = go }
     where
-      go : (k : Block) → BlockAt s b k at → Lays (block_rule (given s b) k) x c x₆ c₅
+      go : (k : Block) → BlockAt s b k at → Lays (block_rule (given s b) k) x.store.now x.cursor x₆.store.now x₆.cursor
       go (braces p ss last) a =
-          let empty' : empty ≡ is_empty ss last = r ∙ empty_same s b at ss last a.2 a.3 in
-          let l' : Lays (block_start (is_empty ss last)) x₁ c₁ x₂ c₂ = subst (λ (t : Bool). Lays (block_start t) x₁ c₁ x₂ c₂) empty' l in
-          lays_group _ o (lays_then l' (lays_then (m.of (braces p ss last) a) (lays_then n w))) z
+          let empty' : empty ≡ is_empty ss last = e ∙ empty_same s b at ss last a.2 a.3 in
+          let l' : Lays (block_start (is_empty ss last)) x₁.store.now x₁.cursor x₂ c₂ = subst (λ (t : Bool). Lays (block_start t) x₁.store.now x₁.cursor x₂ c₂) empty' l in
+          closes_group _ o (lays_then l' (lays_then (m.of (braces p ss last) a) (lays_then n w))) z
 
 -- ---- statements one after the other
 pub record MoreStmts (first : Bool) (s b : List ℕ) (p to : ℕ) (c : Cursor) : Type 0 where
-  pub accepted : Readable s b
+  pub accepted : Readable b
   pub stmt : Stmt
   pub held : StmtAt s b stmt p
   pub whole : Whole b p
@@ -176,7 +180,7 @@ pub record MoreStmts (first : Bool) (s b : List ℕ) (p to : ℕ) (c : Cursor) :
       c
 
 module _ (first : Bool) {s b : List ℕ} {p to : ℕ} {c : Cursor} where
-  pub stmts_first : p < to → HasAll StmtsAt (stmts_from first) s b p to c → MoreStmts first s b p to c
+  pub stmts_first : p < to → HasAllIn StmtsAt (stmts_from first) s b p to c → MoreStmts first s b p to c
   unfolding StmtsAt StmtAt stmts_rule
   stmts_first lt h = go h.tree h.held h.room
     where
@@ -215,7 +219,7 @@ module _ (first : Bool) {s b : List ℕ} {p to : ℕ} {c : Cursor} where
     pub before_stmt_room : Room (before_stmt (given s b) first i) c
     before_stmt_room = room_first _ begun
 
-    pub stmt_has : {x y : List ℕ} {d : Cursor} → Lays (before_stmt (given s b) first i) x c y d → Has StmtAt stmt_rule s b p d
+    pub stmt_has : {x y : List ℕ} {d : Cursor} → Lays (before_stmt (given s b) first i) x c y d → HasIn StmtAt stmt_rule s b p d
     stmt_has l = record { accepted = m.accepted; tree = m.stmt; held = m.held; room = room_first _ (room_next begun l) }
 
     module _ {j : ℕ} (v : j ≡ be32 b (p + 9)) {x y z : List ℕ} {d e : Cursor} (l : Lays (before_stmt (given s b) first i) x c y d)
@@ -226,7 +230,7 @@ module _ (first : Bool) {s b : List ℕ} {p to : ℕ} {c : Cursor} where
       pub after_stmt_room : Room (after_stmt (given s b) j) e
       after_stmt_room = room_first _ done
 
-      pub stmts_rest : {w : List ℕ} {f : Cursor} → Lays (after_stmt (given s b) j) z e w f → HasAll StmtsAt (stmts_from false) s b (stop_at b p) to f
+      pub stmts_rest : {w : List ℕ} {f : Cursor} → Lays (after_stmt (given s b) j) z e w f → HasAllIn StmtsAt (stmts_from false) s b (stop_at b p) to f
       stmts_rest n =
           record { accepted = m.accepted; tree = m.rest; held = m.rest_held; inside = m.inside; room = room_next done n }
 
@@ -260,22 +264,22 @@ abbrev pub DoesAt : List ℕ → List ℕ → Span × Expr → ℕ → Type 0
 DoesAt s b x at = StmtAt s b (stmt x.0 (does x.1)) at
 
 module _ {s b : List ℕ} {at : ℕ} where
-  pub let_has : {c : Cursor} → kind_at b at ≡ 30 → Has StmtAt stmt_rule s b at c → Has LetAt let_rule s b at c
+  pub let_has : {c : Cursor} → kind_at b at ≡ 30 → HasIn StmtAt stmt_rule s b at c → HasIn LetAt let_rule s b at c
   unfolding StmtAt stmt_rule
   let_has {c} e h = go h.tree h.held h.room
     where
-      go : (x : Stmt) → StmtAt s b x at → Room (stmt_rule (given s b) x) c → Has LetAt let_rule s b at c
+      go : (x : Stmt) → StmtAt s b x at → Room (stmt_rule (given s b) x) c → HasIn LetAt let_rule s b at c
       go (stmt p (let' i t v)) a room = record { accepted = h.accepted; tree = (p, i, t, v); held = a; room = room }
       go (stmt p (import_stmt i)) a room = absurd (omega (arith, e, a.0.kinds))
       go (stmt p (does v)) a room = absurd (omega (arith, e, a.0.kinds))
 
-  pub import_has : {c : Cursor} → kind_at b at ≡ 31 → Has StmtAt stmt_rule s b at c
-      → Has ImportStmtAt (λ g x. says "import " ⨟ import_path g x.1 ⨟ says ";") s b at c
+  pub import_has : {c : Cursor} → kind_at b at ≡ 31 → HasIn StmtAt stmt_rule s b at c
+      → HasIn ImportStmtAt (λ g x. says "import " ⨟ import_path g x.1 ⨟ says ";") s b at c
   unfolding StmtAt stmt_rule
   import_has {c} e h = go h.tree h.held h.room
     where
       go : (x : Stmt) → StmtAt s b x at → Room (stmt_rule (given s b) x) c
-          → Has ImportStmtAt (λ g x. says "import " ⨟ import_path g x.1 ⨟ says ";") s b at c
+          → HasIn ImportStmtAt (λ g x. says "import " ⨟ import_path g x.1 ⨟ says ";") s b at c
       go (stmt p (let' i t v)) a room = absurd (omega (arith, e, a.0.kinds))
       go (stmt p (import_stmt i)) a room = record { accepted = h.accepted; tree = (p, i); held = a; room = room }
       go (stmt p (does v)) a room = absurd (omega (arith, e, a.0.kinds))
@@ -335,11 +339,11 @@ abbrev pub does_steps : List ℕ → ℕ → Given → Span × Expr → Act
 does_steps b at g x = grouped (λ id. expr_with 0 g x.1 ⨟ when (not (Braced b (at + 13))) (says ";"))
 
 module _ {s b : List ℕ} {at : ℕ} where
-  pub does_has : {c : Cursor} → (kind_at b at ≡ 30 → ⊥) → (kind_at b at ≡ 31 → ⊥) → Has StmtAt stmt_rule s b at c → Has DoesAt (does_steps b at) s b at c
+  pub does_has : {c : Cursor} → (kind_at b at ≡ 30 → ⊥) → (kind_at b at ≡ 31 → ⊥) → HasIn StmtAt stmt_rule s b at c → HasIn DoesAt (does_steps b at) s b at c
   unfolding StmtAt stmt_rule
   does_has {c} f g h = go h.tree h.held h.room
     where
-      go : (x : Stmt) → StmtAt s b x at → Room (stmt_rule (given s b) x) c → Has DoesAt (does_steps b at) s b at c
+      go : (x : Stmt) → StmtAt s b x at → Room (stmt_rule (given s b) x) c → HasIn DoesAt (does_steps b at) s b at c
       go (stmt p (let' i t v)) a room = absurd (f a.0.kinds)
       go (stmt p (import_stmt i)) a room = absurd (g a.0.kinds)
       go (stmt p (does v)) a room =
@@ -352,24 +356,24 @@ module _ {s b : List ℕ} {at : ℕ} where
                 (sym (is_braced_lem s b (at + 13) v a.1.0)) room;
           }
 
-  pub does_laid : {x x₁ x₂ x₃ x₄ : List ℕ} {c c₁ c₂ c₃ : Cursor} → (kind_at b at ≡ 30 → ⊥) → (kind_at b at ≡ 31 → ⊥)
-      → Opened 0 c.number 0 1 x c x₁ c₁ → LaysAs ExprAt (expr_with 0) s b (at + 13) x₁ c₁ x₂ c₂
-      → Lays (when (not (Braced b (at + 13))) (says ";")) x₂ c₂ x₃ c₃ → x₄ ≡ set x₃ (9 * c.row + 4) c₃.row
-      → LaysAs StmtAt stmt_rule s b at x c x₄ c₃
+  pub does_laid : {r : ℕ} {x x₁ x₃ x₄ : State} {x₂ : List ℕ} {c₂ : Cursor} → (kind_at b at ≡ 30 → ⊥) → (kind_at b at ≡ 31 → ⊥)
+      → Opening Group x x₁ r → LaysAs ExprAt (expr_with 0) s b (at + 13) x₁.store.now x₁.cursor x₂ c₂
+      → Lays (when (not (Braced b (at + 13))) (says ";")) x₂ c₂ x₃.store.now x₃.cursor → Marks 4 r x₃.cursor.row x₃ x₄
+      → LaysAs StmtAt stmt_rule s b at x.store.now x.cursor x₄.store.now x₄.cursor
   unfolding StmtAt stmt_rule
-  does_laid {x} {x₁} {x₂} {x₃} {x₄} {c} {c₁} {c₂} {c₃} f g o l m z = record { of = go }
+  does_laid {r} {x} {x₁} {x₃} {x₄} {x₂} {c₂} f g o l m z = record { of = go }
     where
-      go : (y : Stmt) → StmtAt s b y at → Lays (stmt_rule (given s b) y) x c x₄ c₃
+      go : (y : Stmt) → StmtAt s b y at → Lays (stmt_rule (given s b) y) x.store.now x.cursor x₄.store.now x₄.cursor
       go (stmt p (let' i t v)) a = absurd (f a.0.kinds)
       go (stmt p (import_stmt i)) a = absurd (g a.0.kinds)
       go (stmt p (does v)) a =
-          let m' : Lays (when (not (is_braced v)) (says ";")) x₂ c₂ x₃ c₃ =
-          subst (λ (t : Bool). Lays (when (not t) (says ";")) x₂ c₂ x₃ c₃) (is_braced_lem s b (at + 13) v a.1.0) m in
-          lays_group _ o (lays_then (l.of v a.1.0) m') z
+          let m' : Lays (when (not (is_braced v)) (says ";")) x₂ c₂ x₃.store.now x₃.cursor =
+          subst (λ (t : Bool). Lays (when (not t) (says ";")) x₂ c₂ x₃.store.now x₃.cursor) (is_braced_lem s b (at + 13) v a.1.0) m in
+          closes_group _ o (lays_then (l.of v a.1.0) m') z
 
 -- ---- the parts of an f-string one after the other
 pub record MoreParts (s b : List ℕ) (p to : ℕ) (c : Cursor) : Type 0 where
-  pub accepted : Readable s b
+  pub accepted : Readable b
   pub part : Part
   pub held : PartAt s b part p
   pub whole : Whole b p
@@ -380,7 +384,7 @@ pub record MoreParts (s b : List ℕ) (p to : ℕ) (c : Cursor) : Type 0 where
   pub room : Room (part_rule (given s b) part ⨟ parts_rule (given s b) rest) c
 
 module _ {s b : List ℕ} {p to : ℕ} {c : Cursor} where
-  pub parts_first : p < to → HasAll PartsAt parts_rule s b p to c → MoreParts s b p to c
+  pub parts_first : p < to → HasAllIn PartsAt parts_rule s b p to c → MoreParts s b p to c
   unfolding PartsAt parts_rule
   parts_first lt h = go h.tree h.held h.room
     where
@@ -411,11 +415,11 @@ module _ {s b : List ℕ} {p to : ℕ} {c : Cursor} where
             room = room;
           }
 
-  pub part_has : MoreParts s b p to c → Has PartAt part_rule s b p c
+  pub part_has : MoreParts s b p to c → HasIn PartAt part_rule s b p c
   part_has m = record { accepted = m.accepted; tree = m.part; held = m.held; room = room_first _ m.room }
 
   pub parts_rest : {x y : List ℕ} {d : Cursor} (m : MoreParts s b p to c) → LaysAs PartAt part_rule s b p x c y d
-      → HasAll PartsAt parts_rule s b (stop_at b p) to d
+      → HasAllIn PartsAt parts_rule s b (stop_at b p) to d
   parts_rest m l =
       record {
         accepted = m.accepted;
@@ -454,19 +458,19 @@ abbrev pub ValueAt : List ℕ → List ℕ → Expr → ℕ → Type 0
 ValueAt s b e at = ExprAt s b e (at + 13) × Ends s b (at + 13) at
 
 module _ {s b : List ℕ} {at : ℕ} where
-  pub text_has : {c : Cursor} → kind_at b at ≡ 84 → Has PartAt part_rule s b at c → Has SpanAt content_rule s b at c
+  pub text_has : {c : Cursor} → kind_at b at ≡ 84 → HasIn PartAt part_rule s b at c → HasIn SpanAt content_rule s b at c
   text_has {c} e h = go h.tree h.held h.room
     where
-      go : (x : Part) → PartAt s b x at → Room (part_rule (given s b) x) c → Has SpanAt content_rule s b at c
+      go : (x : Part) → PartAt s b x at → Room (part_rule (given s b) x) c → HasIn SpanAt content_rule s b at c
       go (text p) a room = record { accepted = h.accepted; tree = p; held = (84, a.0); room = room }
       go (forms.value i) a room = absurd (omega (arith, e, a.0.head.kinds))
 
-  pub value_has : {c : Cursor} → (kind_at b at ≡ 84 → ⊥) → Has PartAt part_rule s b at c
-      → Has ValueAt (λ g e. says "{" ⨟ expr_with 0 g e ⨟ says "}") s b at c
+  pub value_has : {c : Cursor} → (kind_at b at ≡ 84 → ⊥) → HasIn PartAt part_rule s b at c
+      → HasIn ValueAt (λ g e. says "{" ⨟ expr_with 0 g e ⨟ says "}") s b at c
   unfolding placeholder
   value_has {c} f h = go h.tree h.held h.room
     where
-      go : (x : Part) → PartAt s b x at → Room (part_rule (given s b) x) c → Has ValueAt (λ g e. says "{" ⨟ expr_with 0 g e ⨟ says "}") s b at c
+      go : (x : Part) → PartAt s b x at → Room (part_rule (given s b) x) c → HasIn ValueAt (λ g e. says "{" ⨟ expr_with 0 g e ⨟ says "}") s b at c
       go (text p) a room = absurd (f a.0.kinds)
       go (forms.value i) a room = record { accepted = h.accepted; tree = i; held = (a.1, a.2); room = room }
 

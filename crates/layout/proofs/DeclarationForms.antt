@@ -20,7 +20,7 @@ use Rattle.acts.specs.declared.Cursor.{Cursor}
 use Rattle.acts.proofs.Laws.{Lays, lays_then, lays_skip, room_first, room_next}
 use Rattle.comments.specs.Listed.{given}
 use Rattle.layout.specs.Layout.{type_expr, unless_empty, some_type_params, return_type, declaration, shebang_rule, declarations_rule}
-use Rattle.layout.specs.Promises.{Has, HasAll, Whole, Readable}
+use Rattle.layout.specs.Promises.{HasIn, HasAllIn, Whole, Readable}
 use Rattle.layout.specs.Elems.{type_params_rule}
 use Rattle.layout.specs.Forms.{two, three, four, five, OfDeclaration, declaration_rule, any_declaration}
 use Rattle.layout.specs.Forms.{MaybeListAt, MaybeTypeAt, MaybeIdentAt, declarations_from}
@@ -83,8 +83,8 @@ module _ (s b : List ℕ) (at : ℕ) where
 
 -- a declaration whose form is known
 module _ {s b : List ℕ} {at : ℕ} {X : Type 0} (mk : X → Declaration) (f : (d : Declaration) → DeclarationAt s b d at → IsDeclaration mk d) where
-  pub declaration_has : (first : Bool) {c : Cursor} → Has (OfDeclaration any_declaration) (declaration_rule any_declaration first) s b at c
-      → Has (OfDeclaration mk) (declaration_rule mk first) s b at c
+  pub declaration_has : (first : Bool) {c : Cursor} → HasIn (OfDeclaration any_declaration) (declaration_rule any_declaration first) s b at c
+      → HasIn (OfDeclaration mk) (declaration_rule mk first) s b at c
   declaration_has first {c} h =
       let x = f h.tree h.held in
       record {
@@ -112,8 +112,8 @@ params_whole s b at f None a = absurd (f a.zero)
 params_whole s b at f (Some is) a = head_whole a.head
 
 module _ {s b : List ℕ} {at : ℕ} where
-  pub params_has : {c : Cursor} → (be32 b at ≡ 0 → ⊥) → (at + 13 ≡ stop_at b at → ⊥) → Has MaybeListAt some_type_params s b at c
-      → Has ListAt type_params_rule s b at c
+  pub params_has : {c : Cursor} → (be32 b at ≡ 0 → ⊥) → (at + 13 ≡ stop_at b at → ⊥) → HasIn MaybeListAt some_type_params s b at c
+      → HasIn ListAt type_params_rule s b at c
   unfolding Maybe IdentsAt
   params_has {c} f g h = go h.tree h.held h.room
     where
@@ -121,7 +121,7 @@ module _ {s b : List ℕ} {at : ℕ} where
       inner [] w a room = absurd (g a.same)
       inner (i ∷ is) w a room = room
 
-      go : (m : Option Idents) → MaybeListAt s b m at → Room (some_type_params (given s b) m) c → Has ListAt type_params_rule s b at c
+      go : (m : Option Idents) → MaybeListAt s b m at → Room (some_type_params (given s b) m) c → HasIn ListAt type_params_rule s b at c
       go None a room = absurd (f a.zero)
       go (Some is) a room =
           record { accepted = h.accepted; tree = is; held = a; room = inner is.elems (type_params_rule (given s b) is) a.elems room }
@@ -159,13 +159,13 @@ module _ {s b : List ℕ} {at : ℕ} where
       go None a = absurd (f a.zero)
       go (Some is) a = inner is.elems (type_params_rule (given s b) is) a.elems (l.of is a)
 
-  pub return_has : {c : Cursor} → (be32 b at ≡ 0 → ⊥) → Has MaybeTypeAt return_type s b at c
-      → Has TypeAt (λ g t. says "-> " ⨟ type_expr g t ⨟ says " ") s b at c
+  pub return_has : {c : Cursor} → (be32 b at ≡ 0 → ⊥) → HasIn MaybeTypeAt return_type s b at c
+      → HasIn TypeAt (λ g t. says "-> " ⨟ type_expr g t ⨟ says " ") s b at c
   unfolding Maybe
   return_has {c} f h = go h.tree h.held h.room
     where
       go : (m : Option TypeExpr) → MaybeTypeAt s b m at → Room (return_type (given s b) m) c
-          → Has TypeAt (λ g t. says "-> " ⨟ type_expr g t ⨟ says " ") s b at c
+          → HasIn TypeAt (λ g t. says "-> " ⨟ type_expr g t ⨟ says " ") s b at c
       go None a room = absurd (f a.zero)
       go (Some t) a room = record { accepted = h.accepted; tree = t; held = a; room = room }
 
@@ -186,11 +186,11 @@ module _ {s b : List ℕ} {at : ℕ} where
       go None a = absurd (g a.zero)
       go (Some t) a = lays_then l (lays_then (m.of t a) n)
 
-  pub has_ident : {c : Cursor} → (be32 b at ≡ 0 → ⊥) → Has MaybeIdentAt shebang_rule s b at c → Has IdentAt (λ g i. shebang_rule g (Some i)) s b at c
+  pub has_ident : {c : Cursor} → (be32 b at ≡ 0 → ⊥) → HasIn MaybeIdentAt shebang_rule s b at c → HasIn IdentAt (λ g i. shebang_rule g (Some i)) s b at c
   unfolding Maybe
   has_ident {c} f h = go h.tree h.held h.room
     where
-      go : (m : Option Ident) → MaybeIdentAt s b m at → Room (shebang_rule (given s b) m) c → Has IdentAt (λ g i. shebang_rule g (Some i)) s b at c
+      go : (m : Option Ident) → MaybeIdentAt s b m at → Room (shebang_rule (given s b) m) c → HasIn IdentAt (λ g i. shebang_rule g (Some i)) s b at c
       go None a room = absurd (f a.zero)
       go (Some i) a room = record { accepted = h.accepted; tree = i; held = a; room = room }
 
@@ -224,7 +224,7 @@ module _ {s b : List ℕ} {at : ℕ} where
 
 -- ---- declarations one after the other
 pub record MoreDeclarations (first : Bool) (s b : List ℕ) (p to : ℕ) (c : Cursor) : Type 0 where
-  pub accepted : Readable s b
+  pub accepted : Readable b
   pub tree : Declaration
   pub held : DeclarationAt s b tree p
   pub whole : Whole b p
@@ -235,7 +235,7 @@ pub record MoreDeclarations (first : Bool) (s b : List ℕ) (p to : ℕ) (c : Cu
   pub room : Room (declaration (given s b) tree first ⨟ declarations_rule (given s b) rest false) c
 
 module _ (first : Bool) {s b : List ℕ} {p to : ℕ} {c : Cursor} where
-  pub declarations_first : p < to → HasAll DeclarationsAt (declarations_from first) s b p to c → MoreDeclarations first s b p to c
+  pub declarations_first : p < to → HasAllIn DeclarationsAt (declarations_from first) s b p to c → MoreDeclarations first s b p to c
   unfolding DeclarationsAt declarations_rule
   declarations_first lt h = go h.tree h.held h.room
     where
@@ -254,12 +254,12 @@ module _ (first : Bool) {s b : List ℕ} {p to : ℕ} {c : Cursor} where
             room = room;
           }
 
-  pub first_has : MoreDeclarations first s b p to c → Has (OfDeclaration any_declaration) (declaration_rule any_declaration first) s b p c
+  pub first_has : MoreDeclarations first s b p to c → HasIn (OfDeclaration any_declaration) (declaration_rule any_declaration first) s b p c
   first_has m = record { accepted = m.accepted; tree = m.tree; held = m.held; room = room_first _ m.room }
 
   pub rest_has : {x y : List ℕ} {d : Cursor} (m : MoreDeclarations first s b p to c)
       → LaysAs (OfDeclaration any_declaration) (declaration_rule any_declaration first) s b p x c y d
-      → HasAll DeclarationsAt (declarations_from false) s b (stop_at b p) to d
+      → HasAllIn DeclarationsAt (declarations_from false) s b (stop_at b p) to d
   rest_has m l =
       record {
         accepted = m.accepted;

@@ -17,7 +17,7 @@ use Rattle.acts.specs.declared.Cursor.{Cursor}
 use Rattle.comments.specs.Comments.{pop_trailing_comment}
 use Rattle.comments.specs.Listed.{given}
 use Rattle.layout.specs.Layout.{expr_with_precedence, is_block}
-use Rattle.layout.specs.Promises.{Has}
+use Rattle.layout.specs.Promises.{HasIn}
 use Rattle.layout.specs.Forms.{two, three, four, Of, form_rule, form_with, expr_with}
 use Rattle.acts.proofs.Laws.{Lays, lays_then}
 use Rattle.layout.proofs.Lays.{LaysAs}
@@ -119,7 +119,7 @@ module _ (s b : List ℕ) (at : ℕ) where
 
 -- an expression whose form is known
 module _ {s b : List ℕ} {at : ℕ} {X : Type 0} (mk : X → Form) (f : (e : Expr) → ExprAt s b e at → IsForm mk e) where
-  pub expr_has : (outer : ℕ) {c : Cursor} → Has ExprAt (form_with outer) s b at c → Has (Of mk) (form_rule mk outer) s b at c
+  pub expr_has : (outer : ℕ) {c : Cursor} → HasIn ExprAt (form_with outer) s b at c → HasIn (Of mk) (form_rule mk outer) s b at c
   unfolding expr_with_precedence
   expr_has outer {c} h =
       let x = f h.tree h.held in
@@ -144,12 +144,12 @@ module _ {s b : List ℕ} {at : ℕ} {X : Type 0} (mk : X → Form) (f : (e : Ex
 
 -- an expression, and the comment after it
 module _ (outer : ℕ) {s b : List ℕ} {at : ℕ} where
-  pub whole_has : {c : Cursor} → Has ExprAt (expr_with outer) s b at c → Has ExprAt (λ g e. form_with outer g e ⨟ pop_trailing_comment g) s b at c
+  pub whole_has : {c : Cursor} → HasIn ExprAt (expr_with outer) s b at c → HasIn ExprAt (λ g e. form_with outer g e ⨟ pop_trailing_comment g) s b at c
   unfolding expr_with_precedence
   whole_has {c} h = go h.tree h.held h.room
     where
       go : (e : Expr) → ExprAt s b e at → Room (expr_with outer (given s b) e) c
-          → Has ExprAt (λ g e. form_with outer g e ⨟ pop_trailing_comment g) s b at c
+          → HasIn ExprAt (λ g e. form_with outer g e ⨟ pop_trailing_comment g) s b at c
       go (expr p f) a room = record { accepted = h.accepted; tree = expr p f; held = a; room = room }
 
   pub whole_laid : {x y z : List ℕ} {c d e : Cursor} → LaysAs ExprAt (form_with outer) s b at x c y d → Lays (pop_trailing_comment (given s b)) y d z e

@@ -19,11 +19,11 @@ use Rattle.acts.specs.declared.Cursor.{Cursor}
 use Rattle.acts.proofs.Laws.{Lays, lays_then, lays_skip}
 use Rattle.comments.specs.Listed.{given}
 use Rattle.layout.specs.Layout.{path_rule, is_some, is_group, import_first, import_path, import_group, import_elems, separated}
-use Rattle.layout.specs.Promises.{Has, InImage, Whole}
+use Rattle.layout.specs.Promises.{HasIn, InImage, Whole}
 use Rattle.layout.specs.Forms.{MaybePathAt}
 use Rattle.layout.proofs.Places.{within, head_whole, import_whole}
 use Rattle.layout.proofs.Runs.{list_of, import_elems_lem, braces}
-use Rattle.layout.specs.Elems.{ImportElem, HasList}
+use Rattle.layout.specs.Elems.{ImportElem, HasListIn}
 use Rattle.layout.specs.declared.forms.WrapStyle.TheVariants.{Tight}
 use Rattle.layout.proofs.Lays.{LaysAs, LaysList}
 
@@ -39,11 +39,11 @@ module _ (s b : List ℕ) (at : ℕ) where
   is_group_lem (group p is) a = rw (ne_eqb (be32 b at) 0 (λ e. omega (arith, a.0.long)))
 
 module _ {s b : List ℕ} {at : ℕ} where
-  pub has_path : {c : Cursor} → (be32 b at ≡ 0 → ⊥) → Has MaybePathAt import_first s b at c → Has PathAt (λ g p. path_rule g p true false) s b at c
+  pub has_path : {c : Cursor} → (be32 b at ≡ 0 → ⊥) → HasIn MaybePathAt import_first s b at c → HasIn PathAt (λ g p. path_rule g p true false) s b at c
   unfolding Maybe
   has_path {c} f h = go h.tree h.held h.room
     where
-      go : (q : Option Path) → Maybe s b (PathAt s b) q at → Room (import_first (given s b) q) c → Has PathAt (λ g p. path_rule g p true false) s b at c
+      go : (q : Option Path) → Maybe s b (PathAt s b) q at → Room (import_first (given s b) q) c → HasIn PathAt (λ g p. path_rule g p true false) s b at c
       go None a room = absurd (f a.zero)
       go (Some p) a room = record { accepted = h.accepted; tree = p; held = a; room = room }
 
@@ -92,11 +92,11 @@ module _ (s b : List ℕ) (at : ℕ) where
   dotted q g a i = rw (is_some_lem s b (at + 13) q a, is_group_lem s b (stop_at b (at + 13)) g i)
 
 module _ {s b : List ℕ} {at : ℕ} where
-  pub import_parts : {c : Cursor} → Has ImportAt import_path s b at c → Has ImportPartsAt (import_steps b at) s b at c
+  pub import_parts : {c : Cursor} → HasIn ImportAt import_path s b at c → HasIn ImportPartsAt (import_steps b at) s b at c
   unfolding ImportAt import_path
   import_parts {c} h = go h.tree h.held h.room
     where
-      go : (i : Import) → ImportAt s b i at → Room (import_path (given s b) i) c → Has ImportPartsAt (import_steps b at) s b at c
+      go : (i : Import) → ImportAt s b i at → Room (import_path (given s b) i) c → HasIn ImportPartsAt (import_steps b at) s b at c
       go (import p q g) a room =
           record {
             accepted = h.accepted;
@@ -147,13 +147,13 @@ module _ (s b : List ℕ) (at : ℕ) (f : be32 b at ≡ 0 → ⊥) where
 module _ {s b : List ℕ} {at : ℕ} where
   -- the list of a group
   pub group_list : {c : Cursor} → (be32 b at ≡ 0 → ⊥) → ((stop_at b at ≡ at + 13 → ⊥) → stop_at b (at + 13) ≡ stop_at b at → ⊥)
-      → Has ImportGroupAt import_group s b at c → HasList ImportElem braces (be32 b (at + 9)) s b at c
+      → HasIn ImportGroupAt import_group s b at c → HasListIn ImportElem braces (be32 b (at + 9)) s b at c
   unfolding ImportGroupAt ImportsAt import_group
   group_list {c} f g h = go h.tree h.held h.room
     where
       list : (p : Span) (is : Imports) → ImportGroupAt s b (group p is) at
           → Room (separated (given s b) "{" "}" "," (import_elems (given s b) is) p Tight) c
-          → HasList ImportElem braces (be32 b (at + 9)) s b at c
+          → HasListIn ImportElem braces (be32 b (at + 9)) s b at c
       list p is a room =
           record {
             accepted = h.accepted;
@@ -165,7 +165,7 @@ module _ {s b : List ℕ} {at : ℕ} where
           }
 
       go : (q : ImportGroup) → ImportGroupAt s b q at → Room (import_group (given s b) q) c
-          → HasList ImportElem braces (be32 b (at + 9)) s b at c
+          → HasListIn ImportElem braces (be32 b (at + 9)) s b at c
       go no_group a room = absurd (f a.zero)
       go (group p no_imports) a room = list p no_imports a room
       go (group p (i ∷ⁱ no_imports)) a room =
@@ -174,11 +174,11 @@ module _ {s b : List ℕ} {at : ℕ} where
 
   -- the only item
   pub group_first : {c : Cursor} → (be32 b at ≡ 0 → ⊥) → (stop_at b at ≡ at + 13 → ⊥) → stop_at b (at + 13) ≡ stop_at b at
-      → Has ImportGroupAt import_group s b at c → Has ImportAt import_path s b (at + 13) c
+      → HasIn ImportGroupAt import_group s b at c → HasIn ImportAt import_path s b (at + 13) c
   unfolding ImportGroupAt ImportsAt import_group
   group_first {c} f g e h = go h.tree h.held h.room
     where
-      go : (q : ImportGroup) → ImportGroupAt s b q at → Room (import_group (given s b) q) c → Has ImportAt import_path s b (at + 13) c
+      go : (q : ImportGroup) → ImportGroupAt s b q at → Room (import_group (given s b) q) c → HasIn ImportAt import_path s b (at + 13) c
       go no_group a room = absurd (f a.zero)
       go (group p no_imports) a room = absurd (g (sym a.1.same))
       go (group p (i ∷ⁱ no_imports)) a room = record { accepted = h.accepted; tree = i; held = a.1.0; room = room }

@@ -17,7 +17,7 @@ use Rattle.acts.specs.declared.Cursor.{Cursor}
 use Rattle.acts.proofs.Laws.{Lays, lays_then, lays_skip, room_first, room_next}
 use Rattle.comments.specs.Listed.{given}
 use Rattle.layout.specs.Layout.{ident, path_next, path_more}
-use Rattle.layout.specs.Promises.{Readable, Has, HasAll}
+use Rattle.layout.specs.Promises.{Readable, HasIn, HasAllIn}
 use Rattle.layout.proofs.Lays.{LaysAll, LaysAs}
 
 -- the text that the numbers of its record say
@@ -37,7 +37,7 @@ module _ {s b : List ℕ} {at w f n : ℕ} {i : Ident} (a : IdentAt s b i at) (p
 
 -- the first of the identifiers that are left, and those after it
 pub record More (breaks : Bool) (s b : List ℕ) (p to : ℕ) (c : Cursor) : Type 0 where
-  pub accepted : Readable s b
+  pub accepted : Readable b
   pub first : Ident
   pub held : IdentAt s b first p
   pub least : stop_at b p ≤ to
@@ -47,7 +47,7 @@ pub record More (breaks : Bool) (s b : List ℕ) (p to : ℕ) (c : Cursor) : Typ
   pub room : Room (path_next (given s b) breaks first ⨟ path_more (given s b) breaks rest) c
 
 module _ (breaks : Bool) {s b : List ℕ} {p to : ℕ} {c : Cursor} where
-  pub idents_first : p < to → HasAll IdentsAt (λ g. path_more g breaks) s b p to c → More breaks s b p to c
+  pub idents_first : p < to → HasAllIn IdentsAt (λ g. path_more g breaks) s b p to c → More breaks s b p to c
   unfolding IdentsAt path_more
   idents_first lt h = go h.tree h.held h.room
     where
@@ -65,11 +65,11 @@ module _ (breaks : Bool) {s b : List ℕ} {p to : ℕ} {c : Cursor} where
             room = room;
           }
 
-  pub first_has : More breaks s b p to c → Has IdentAt (λ g. path_next g breaks) s b p c
+  pub first_has : More breaks s b p to c → HasIn IdentAt (λ g. path_next g breaks) s b p c
   first_has m = record { accepted = m.accepted; tree = m.first; held = m.held; room = room_first _ m.room }
 
   pub rest_has : {x y : List ℕ} {d : Cursor} (m : More breaks s b p to c) → LaysAs IdentAt (λ g. path_next g breaks) s b p x c y d
-      → HasAll IdentsAt (λ g. path_more g breaks) s b (stop_at b p) to d
+      → HasAllIn IdentsAt (λ g. path_more g breaks) s b (stop_at b p) to d
   rest_has m l =
       record {
         accepted = m.accepted;

@@ -10,11 +10,13 @@ use Rattle.tree.specs.At.{ExprAt}
 use Rattle.acts.specs.Act.{Given, Act}
 use Rattle.acts.specs.Laid.{Room}
 use Rattle.acts.specs.declared.Cursor.{Cursor}
+use Rattle.acts.specs.declared.State.{State}
 use Rattle.acts.proofs.Laws.{Lays}
 use Rattle.comments.specs.Listed.{given}
+use Rattle.comments.specs.declared.parsed.Parsed.{Parsed}
 use Rattle.layout.specs.declared.forms.ListForm.{ListForm}
 use Rattle.layout.specs.Layout.{Elem, leftmost}
-use Rattle.layout.specs.Promises.{Readable, Has, LaidAs, LaidAll}
+use Rattle.layout.specs.Promises.{Readable, HasIn, LaidAs, LaidAll}
 use Rattle.layout.specs.Elems.{ListOf, list_rule, LaidList, LaidEmpty}
 use Rattle.layout.specs.Chains.{Above, grown, Filled, LaidTail}
 
@@ -36,42 +38,51 @@ pub record LaysEmpty (form : ListForm) (end : ℕ) (s b : List ℕ) (x : List �
 pub record LaysTail (s b : List ℕ) (at left : ℕ) (x : List ℕ) (c : Cursor) (y : List ℕ) (d : Cursor) : Type 0 where
   pub of : (q : ℕ) (e : Expr) → ExprAt s b e at → (l : Expr) (a : Above q s b e at left l) (h : Act) → Lays (grown a (leftmost h)).ops x c y d
 
-module _ {T : Type 0} {rule : Given → T → Act} {s b : List ℕ} {x y : List ℕ} {c d : Cursor} where
+module _ {T : Type 0} {rule : Given → T → Act} {p : Parsed} {x y : State} where
   module _ {R : List ℕ → List ℕ → T → ℕ → Type 0} {at : ℕ} where
-    pub lays_as : Readable s b → LaidAs R rule s b at x c y d → LaysAs R rule s b at x c y d
+    pub lays_as : Readable p.image.now → LaidAs R rule p at x y
+        → LaysAs R rule p.source.now p.image.now at x.store.now x.cursor y.store.now y.cursor
     lays_as k l = record { of = λ t a. record { does = λ room. l.of (record { accepted = k; tree = t; held = a; room = room }) } }
 
-    pub laid_as : LaysAs R rule s b at x c y d → LaidAs R rule s b at x c y d
-    laid_as l = record { of = λ h. (l.of h.tree h.held).does h.room }
+    pub laid_as : y.store.ghost_name ≡ x.store.ghost_name
+        → LaysAs R rule p.source.now p.image.now at x.store.now x.cursor y.store.now y.cursor → LaidAs R rule p at x y
+    laid_as e l = record { of = λ h. (l.of h.tree h.held).does h.room; same = e }
 
   module _ {R : List ℕ → List ℕ → T → ℕ → ℕ → Type 0} {from to : ℕ} where
-    pub lays_all : Readable s b → to ≤ length b → LaidAll R rule s b from to x c y d → LaysAll R rule s b from to x c y d
+    pub lays_all : Readable p.image.now → to ≤ length p.image.now → LaidAll R rule p from to x y
+        → LaysAll R rule p.source.now p.image.now from to x.store.now x.cursor y.store.now y.cursor
     lays_all k i l = record { of = λ t a. record { does = λ room. l.of (record { accepted = k; tree = t; held = a; inside = i; room = room }) } }
 
-    pub laid_all : LaysAll R rule s b from to x c y d → LaidAll R rule s b from to x c y d
-    laid_all l = record { of = λ h. (l.of h.tree h.held).does h.room }
+    pub laid_all : y.store.ghost_name ≡ x.store.ghost_name
+        → LaysAll R rule p.source.now p.image.now from to x.store.now x.cursor y.store.now y.cursor → LaidAll R rule p from to x y
+    laid_all e l = record { of = λ h. (l.of h.tree h.held).does h.room; same = e }
 
-module _ {form : ListForm} {end : ℕ} {s b : List ℕ} {x y : List ℕ} {c d : Cursor} where
+module _ {form : ListForm} {end : ℕ} {p : Parsed} {x y : State} where
   module _ {P : List ℕ → List ℕ → Elem → ℕ → Type 0} {at : ℕ} where
-    pub lays_list : Readable s b → LaidList P form end s b at x c y d → LaysList P form end s b at x c y d
+    pub lays_list : Readable p.image.now → LaidList P form end p at x y
+        → LaysList P form end p.source.now p.image.now at x.store.now x.cursor y.store.now y.cursor
     lays_list i l =
         record {
           of =
-              λ es a p e.
-              record { does = λ room. l.of (record { accepted = i; tree = es; held = a; span = p; ended = e; room = room }) };
+              λ es a q e.
+              record { does = λ room. l.of (record { accepted = i; tree = es; held = a; span = q; ended = e; room = room }) };
         }
 
-    pub laid_list : LaysList P form end s b at x c y d → LaidList P form end s b at x c y d
-    laid_list l = record { of = λ h. (l.of h.tree h.held h.span h.ended).does h.room }
+    pub laid_list : y.store.ghost_name ≡ x.store.ghost_name
+        → LaysList P form end p.source.now p.image.now at x.store.now x.cursor y.store.now y.cursor → LaidList P form end p at x y
+    laid_list e l = record { of = λ h. (l.of h.tree h.held h.span h.ended).does h.room; same = e }
 
-  pub lays_empty : Readable s b → LaidEmpty form end s b x c y d → LaysEmpty form end s b x c y d
-  lays_empty i l = record { of = λ p e. record { does = λ room. l.of (record { accepted = i; span = p; ended = e; room = room }) } }
+  pub lays_empty : Readable p.image.now → LaidEmpty form end p x y
+      → LaysEmpty form end p.source.now p.image.now x.store.now x.cursor y.store.now y.cursor
+  lays_empty i l = record { of = λ q e. record { does = λ room. l.of (record { accepted = i; span = q; ended = e; room = room }) } }
 
-  pub laid_empty : LaysEmpty form end s b x c y d → LaidEmpty form end s b x c y d
-  laid_empty l = record { of = λ h. (l.of h.span h.ended).does h.room }
+  pub laid_empty : y.store.ghost_name ≡ x.store.ghost_name
+      → LaysEmpty form end p.source.now p.image.now x.store.now x.cursor y.store.now y.cursor → LaidEmpty form end p x y
+  laid_empty e l = record { of = λ h. (l.of h.span h.ended).does h.room; same = e }
 
-module _ {s b : List ℕ} {at left : ℕ} {ops : List ℕ} {x y : List ℕ} {c d : Cursor} where
-  pub lays_tail : Readable s b → Filled ops at left → LaidTail s b at left ops x c y d → LaysTail s b at left x c y d
+module _ {p : Parsed} {at left : ℕ} {ops : List ℕ} {x y : State} where
+  pub lays_tail : Readable p.image.now → Filled ops at left → LaidTail p at left ops x y
+      → LaysTail p.source.now p.image.now at left x.store.now x.cursor y.store.now y.cursor
   lays_tail k f l =
       record {
         of =
@@ -94,10 +105,11 @@ module _ {s b : List ℕ} {at left : ℕ} {ops : List ℕ} {x y : List ℕ} {c d
             };
       }
 
-  pub laid_tail : LaysTail s b at left x c y d → LaidTail s b at left ops x c y d
-  laid_tail l = record { of = λ h. (l.of h.precedence h.tree h.held h.low h.above h.head).does h.room }
+  pub laid_tail : y.store.ghost_name ≡ x.store.ghost_name
+      → LaysTail p.source.now p.image.now at left x.store.now x.cursor y.store.now y.cursor → LaidTail p at left ops x y
+  laid_tail e l = record { of = λ h. (l.of h.precedence h.tree h.held h.low h.above h.head).does h.room; same = e }
 
 -- a part that stands there, with room for another rule at another cursor
 pub has_at : {T : Type 0} {R : List ℕ → List ℕ → T → ℕ → Type 0} {rule rule' : Given → T → Act} {s b : List ℕ} {at : ℕ} {c d : Cursor}
-    (h : Has R rule s b at c) → Room (rule' (given s b) h.tree) d → Has R rule' s b at d
+    (h : HasIn R rule s b at c) → Room (rule' (given s b) h.tree) d → HasIn R rule' s b at d
 has_at h room = record { accepted = h.accepted; tree = h.tree; held = h.held; room = room }

@@ -10,10 +10,12 @@ use Rattle.image.specs.Read.{stop_at}
 use Rattle.acts.specs.Act.{Given, Act}
 use Rattle.acts.specs.Laid.{Room, Laid}
 use Rattle.acts.specs.declared.Cursor.{Cursor}
+use Rattle.acts.specs.declared.State.{State}
+use Rattle.comments.specs.declared.parsed.Parsed.{Parsed}
 use Rattle.layout.specs.declared.forms.ListForm.{ListForm}
 use Rattle.layout.specs.Layout.{Elem}
 use Rattle.layout.specs.Promises.{Readable, Has, LaidAs}
-use Rattle.layout.specs.Elems.{Is, Laying, ElemsAt, ListOf, HasList, LaidList}
+use Rattle.layout.specs.Elems.{Is, Laying, ElemsAt, ListOf, HasListIn, HasList, LaidList}
 use Rattle.layout.proofs.Lays.{LaysList, lays_list}
 
 module _ (P Q : List ℕ → List ℕ → Elem → ℕ → Type 0) {s b : List ℕ} where
@@ -27,12 +29,12 @@ module _ (P Q : List ℕ → List ℕ → Elem → ℕ → Type 0) {s b : List �
     elems_by low to f es (stop_at b at) (omega arith) a.2,
   )
 
-  module _ {at : ℕ} (f : (e : Elem) (p : ℕ) → at + 13 ≤ p → stop_at b p ≤ stop_at b at → P s b e p → Q s b e p) where
+  module _ (at : ℕ) (f : (e : Elem) (p : ℕ) → at + 13 ≤ p → stop_at b p ≤ stop_at b at → P s b e p → Q s b e p) where
     list_by : {es : List Elem} → ListOf P s b es at → ListOf Q s b es at
     list_by {es} a =
         record { long = a.long; fits = a.fits; elems = elems_by (at + 13) (stop_at b at) f es (at + 13) (omega arith) a.elems }
 
-    has_by : {form : ListForm} {end : ℕ} {c : Cursor} → HasList P form end s b at c → HasList Q form end s b at c
+    has_by : {form : ListForm} {end : ℕ} {c : Cursor} → HasListIn P form end s b at c → HasListIn Q form end s b at c
     has_by h = record { accepted = h.accepted; tree = h.tree; held = list_by h.held; span = h.span; ended = h.ended; room = h.room }
 
     lays_by : {form : ListForm} {end : ℕ} {x y : List ℕ} {c d : Cursor} → LaysList Q form end s b at x c y d
@@ -40,26 +42,31 @@ module _ (P Q : List ℕ → List ℕ → Elem → ℕ → Type 0) {s b : List �
     lays_by l = record { of = λ es a. l.of es (list_by a) }
 
 -- a closure that lays the parts of a list, each wherever it stands within the list's record
-module _ {T : Type 0} (R : List ℕ → List ℕ → T → ℕ → Type 0) (rule : Given → T → Act) {s b : List ℕ} (at : ℕ)
-    {F : Type 0} {g : Shared F (MutBor (List ℕ) × (Cursor × (ℕ × Unit {0}))) (Cursor × (MutBor (List ℕ) × Unit {0}))} {f : F}
+module _ {T : Type 0} (R : List ℕ → List ℕ → T → ℕ → Type 0) (rule : Given → T → Act) {p : Parsed} (at : ℕ)
+    {F : Type 0} {g : Shared F (MutBor State × (ℕ × Unit {0})) (Unit {0} × (MutBor State × Unit {0}))} {f : F}
     (takes :
-    (p : ℕ) → at + 13 ≤ p → stop_at b p ≤ stop_at b at
-    → (x : MutBor (List ℕ)) (c : Cursor) → Has R rule s b p c → g.pre f (x, (c, (p, tt))))
-    (lays :
-    (p : ℕ) (x y : MutBor (List ℕ)) (c d : Cursor)
-    → g.post f (x, (c, (p, tt))) (d, (y, tt)) → LaidAs R rule s b p x.now c y.now d) where
-  laying : Readable s b → (e : Elem) (p : ℕ) → at + 13 ≤ p → stop_at b p ≤ stop_at b at → Is R rule s b e p → Laying g f s b e p
-  laying k e p low high i =
-      let has : (c : Cursor) → Room e.act c → Has R rule s b p c =
-      λ c room. record { accepted = k; tree = i.tree; held = i.held; room = subst (λ (r : Act). Room r c) (sym i.same) room } in
+    (i : ℕ) → at + 13 ≤ i → stop_at p.image.now i ≤ stop_at p.image.now at
+    → (x : MutBor State) → Has R rule p i x.now.cursor → g.pre f (x, (i, tt)))
+    (lays : (i : ℕ) (x y : MutBor State) → g.post f (x, (i, tt)) (tt, (y, tt)) → LaidAs R rule p i x.now y.now) where
+  laying : Readable p.image.now → (e : Elem) (i : ℕ) → at + 13 ≤ i → stop_at p.image.now i ≤ stop_at p.image.now at
+      → Is R rule p.source.now p.image.now e i → Laying g f p.source.now p.image.now e i
+  laying k e i low high t =
+      let has : (c : Cursor) → Room e.act c → Has R rule p i c =
+      λ c room. record { accepted = k; tree = t.tree; held = t.held; room = subst (λ (r : Act). Room r c) (sym t.same) room } in
       record {
-        takes = λ x c room. takes p low high x c (has c room);
-        lays = λ x y c d room r. subst (λ (a : Act). Laid a x.now c y.now d) i.same ((lays p x y c d r).of (has c room));
+        takes = λ x room. takes i low high x (has x.now.cursor room);
+        lays =
+            λ x y room r.
+            let l = lays i x y r in
+            record {
+              laid = subst (λ (a : Act). Laid a x.now.store.now x.now.cursor y.now.store.now y.now.cursor) t.same (l.of (has x.now.cursor room));
+              same = l.same;
+            };
       }
 
-  pub has_each : {form : ListForm} {end : ℕ} {c : Cursor} → HasList (Is R rule) form end s b at c → HasList (Laying g f) form end s b at c
-  has_each h = has_by (Is R rule) (Laying g f) (laying h.accepted) h
+  pub has_each : {form : ListForm} {end : ℕ} {c : Cursor} → HasList (Is R rule) form end p at c → HasList (Laying g f) form end p at c
+  has_each h = has_by (Is R rule) (Laying g f) at (laying h.accepted) h
 
-  pub lays_each : Readable s b → {form : ListForm} {end : ℕ} {x y : List ℕ} {c d : Cursor} → LaidList (Laying g f) form end s b at x c y d
-      → LaysList (Is R rule) form end s b at x c y d
-  lays_each k l = lays_by (Is R rule) (Laying g f) (laying k) (lays_list k l)
+  pub lays_each : Readable p.image.now → {form : ListForm} {end : ℕ} {x y : State} → LaidList (Laying g f) form end p at x y
+      → LaysList (Is R rule) form end p.source.now p.image.now at x.store.now x.cursor y.store.now y.cursor
+  lays_each k l = lays_by (Is R rule) (Laying g f) at (laying k) (lays_list k l)

@@ -17,13 +17,16 @@ use Rattle.ast.specs.Syntax.{list, not', assign, compound_assign, bin_op, negate
 use Rattle.tree.specs.At.{ExprAt, left_depth}
 use Rattle.rows.specs.Node.{line_or_space}
 use Rattle.acts.specs.Act.{Given, Act, push, grouped, indented, ◌⨟◌}
-use Rattle.acts.specs.Laid.{Room, Opened}
+use Rattle.acts.specs.Laid.{Room}
+use Rattle.acts.specs.Does.{Opening, Marks}
+use Rattle.acts.specs.declared.State.{State}
+use Rattle.acts.specs.declared.parts.Branch.TheVariants.{Group, Indent}
+use Rattle.acts.proofs.Closes.{closes_group, closes_indent}
 use Rattle.acts.specs.declared.Cursor.{Cursor}
 use Rattle.acts.proofs.Laws.{Lays, lays_then, room_first, room_next}
-use Rattle.acts.proofs.Nested.{lays_group, lays_indent}
 use Rattle.comments.specs.Listed.{given}
 use Rattle.layout.specs.Layout.{Operands, leftmost, popped, binop, binop_precedence, expr_with_precedence, expr_form, operands, operator}
-use Rattle.layout.specs.Promises.{InImage, Readable, Has}
+use Rattle.layout.specs.Promises.{InImage, Readable, HasIn}
 use Rattle.layout.specs.Forms.{four, Of, expr_with, form_rule, OperatorAt, operator_rule}
 use Rattle.layout.specs.Chains.{Above, top, up, grown, Starts}
 use Rattle.layout.proofs.Places.{within, expr_whole}
@@ -108,13 +111,17 @@ module _ {q : ℕ} {s b : List ℕ} {e : Expr} {at : ℕ} where
   room_below top z room = room
   room_below (up {o = o} {r = r} {t = t} i j k a) z room = room_first _ (room_below a (popped (given s b) z t o (expr_with 0 (given s b) r)) room)
 
-  pub chain_laid : {p : ℕ} {x : Expr} (a : Above q s b e at p x) (h : Act) {s₀ s₁ s₂ s₃ s₄ s₅ s₆ s₇ : List ℕ} {c c₁ c₂ c₃ c₄ c₅ : Cursor}
-      → Opened 0 c.number 0 1 s₀ c s₁ c₁ → Lays h s₁ c₁ s₂ c₂ → Lays (push line_or_space) s₂ c₂ s₃ c₃ → Opened 1 0 0 0 s₃ c₃ s₄ c₄
-      → Lays (grown a (leftmost h)).ops s₄ c₄ s₅ c₅ → s₆ ≡ set s₅ (9 * c₃.row + 4) c₅.row → s₇ ≡ set s₆ (9 * c.row + 4) c₅.row
-      → Lays (binop (grown a (leftmost h))) s₀ c s₇ c₅
+  pub chain_laid : {p : ℕ} {x : Expr} (a : Above q s b e at p x) (h : Act) {r i : ℕ} {s₀ s₁ s₃ s₄ s₅ s₆ s₇ : State} {s₂ : List ℕ} {c₂ : Cursor}
+      → Opening Group s₀ s₁ r → Lays h s₁.store.now s₁.cursor s₂ c₂ → Lays (push line_or_space) s₂ c₂ s₃.store.now s₃.cursor
+      → Opening Indent s₃ s₄ i → Lays (grown a (leftmost h)).ops s₄.store.now s₄.cursor s₅.store.now s₅.cursor
+      → Marks 4 i s₅.cursor.row s₅ s₆ → Marks 4 r s₆.cursor.row s₆ s₇
+      → Lays (binop (grown a (leftmost h))) s₀.store.now s₀.cursor s₇.store.now s₇.cursor
   unfolding binop
-  chain_laid a h {s₁ = s₁} {s₂ = s₂} {c₁ = c₁} {c₂ = c₂} o l m i t k j =
-      lays_group _ o (lays_then (subst (λ (z : Act). Lays z s₁ c₁ s₂ c₂) (sym (grown_head a (leftmost h))) l) (lays_then m (lays_indent i t k))) j
+  chain_laid a h {s₁ = s₁} {s₂ = s₂} {c₂ = c₂} o l m i t k j =
+      closes_group _ o
+      (lays_then (subst (λ (z : Act). Lays z s₁.store.now s₁.cursor s₂ c₂) (sym (grown_head a (leftmost h))) l)
+      (lays_then m (closes_indent i t k)))
+      j
 
 -- the whole chain, from its leftmost operand on
 pub chain_form : (s b : List ℕ) (t : Span × (Expr × Span × ℕ × Expr)) (q at left : ℕ) (w : Starts q s b (expr t.0 (four bin_op t.1)) at left)
@@ -235,12 +242,12 @@ going_next {q} {s} {b} {e} {at} {p} {m} {f} {all} {x} {x₁} {c} {c₁} lt i g =
           room = subst (λ (v : Bool). Room (operator (given s b) v t o ⨟ expr_with 0 (given s b) r) c₁) g.begun next;
         })
 
-module _ {f : Bool} {s b : List ℕ} {m : ℕ} {c : Cursor} (k : Readable s b) (n : NextOperator f s b m c) where
-  pub operator_has : Has OperatorAt (operator_rule f) s b (stop_at b (m + 13)) c
+module _ {f : Bool} {s b : List ℕ} {m : ℕ} {c : Cursor} (k : Readable b) (n : NextOperator f s b m c) where
+  pub operator_has : HasIn OperatorAt (operator_rule f) s b (stop_at b (m + 13)) c
   operator_has = record { accepted = k; tree = n.symbol; held = n.symbol_held; room = room_first _ n.room }
 
   pub right_has : {x y : List ℕ} {d : Cursor} → LaysAs OperatorAt (operator_rule f) s b (stop_at b (m + 13)) x c y d
-      → Has ExprAt (expr_with 0) s b (stop_at b (stop_at b (m + 13))) d
+      → HasIn ExprAt (expr_with 0) s b (stop_at b (stop_at b (m + 13))) d
   right_has l =
       record { accepted = k; tree = n.right; held = n.right_held; room = room_next n.room (l.of n.symbol n.symbol_held) }
 

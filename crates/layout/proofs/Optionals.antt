@@ -18,9 +18,9 @@ use Rattle.acts.proofs.Laws.{Lays, lays_then, lays_skip, room_first, room_next}
 use Rattle.comments.specs.Comments.{pop_trailing_comment}
 use Rattle.comments.specs.Listed.{given}
 use Rattle.layout.specs.Layout.{ident, type_expr, ident_elems, let_type, maybe_expr, otherwise, last_rule, before_stmt, block_rule, pattern}
-use Rattle.layout.specs.Promises.{Has, Whole, InImage}
+use Rattle.layout.specs.Promises.{HasIn, Whole, InImage}
 use Rattle.acts.specs.declared.words.Word.{Word}
-use Rattle.layout.specs.Elems.{IdentElem, HasList}
+use Rattle.layout.specs.Elems.{IdentElem, HasListIn}
 use Rattle.layout.specs.Forms.{expr_with, after_word, maybe_after, last_from, MaybeTypeAt}
 use Rattle.layout.proofs.Places.{head_whole, type_whole, expr_whole, block_whole, maybe_list}
 use Rattle.layout.proofs.Runs.{list_of, ident_elems_lem, parens}
@@ -28,11 +28,11 @@ use Rattle.layout.proofs.Lays.{LaysAs, LaysList}
 
 module _ {s b : List ℕ} {at : ℕ} where
   -- ---- an expression
-  pub has_expr : (k : Word) {c : Cursor} → (be32 b at ≡ 0 → ⊥) → Has MaybeExprAt (maybe_after k) s b at c → Has ExprAt (after_word k 0) s b at c
+  pub has_expr : (k : Word) {c : Cursor} → (be32 b at ≡ 0 → ⊥) → HasIn MaybeExprAt (maybe_after k) s b at c → HasIn ExprAt (after_word k 0) s b at c
   unfolding MaybeExprAt maybe_expr
   has_expr k {c} f h = go h.tree h.held h.room
     where
-      go : (m : MaybeExpr) → MaybeExprAt s b m at → Room (maybe_after k (given s b) m) c → Has ExprAt (after_word k 0) s b at c
+      go : (m : MaybeExpr) → MaybeExprAt s b m at → Room (maybe_after k (given s b) m) c → HasIn ExprAt (after_word k 0) s b at c
       go no_expr a room = absurd (f a.zero)
       go (some_expr e) a room = record { accepted = h.accepted; tree = e; held = a; room = room }
 
@@ -54,13 +54,13 @@ module _ {s b : List ℕ} {at : ℕ} where
       go (some_expr e) a = l.of e a
 
   -- ---- the last expression of a block
-  pub has_last : (first : Bool) {n : ℕ} {c : Cursor} → (be32 b at ≡ 0 → ⊥) → n ≡ be32 b (at + 5) → Has MaybeExprAt (last_from first) s b at c
-      → Has ExprAt (λ g e. before_stmt g first n ⨟ expr_with 0 g e ⨟ pop_trailing_comment g) s b at c
+  pub has_last : (first : Bool) {n : ℕ} {c : Cursor} → (be32 b at ≡ 0 → ⊥) → n ≡ be32 b (at + 5) → HasIn MaybeExprAt (last_from first) s b at c
+      → HasIn ExprAt (λ g e. before_stmt g first n ⨟ expr_with 0 g e ⨟ pop_trailing_comment g) s b at c
   unfolding MaybeExprAt ExprAt last_rule
   has_last first {n} {c} f q h = go h.tree h.held h.room
     where
       go : (m : MaybeExpr) → MaybeExprAt s b m at → Room (last_from first (given s b) m) c
-          → Has ExprAt (λ g e. before_stmt g first n ⨟ expr_with 0 g e ⨟ pop_trailing_comment g) s b at c
+          → HasIn ExprAt (λ g e. before_stmt g first n ⨟ expr_with 0 g e ⨟ pop_trailing_comment g) s b at c
       go no_expr a room = absurd (f a.zero)
       go (some_expr (expr p i)) a room =
           record {
@@ -93,11 +93,11 @@ module _ {s b : List ℕ} {at : ℕ} where
           lays_then (subst (λ (j : ℕ). Lays (before_stmt (given s b) first j) x c y d) (q ∙ a.0.start) l) (lays_then (m.of (expr p i) a) t)
 
   -- ---- the type of a `let`
-  pub has_type : {c : Cursor} → (be32 b at ≡ 0 → ⊥) → Has MaybeTypeAt let_type s b at c → Has TypeAt (λ g t. says ": " ⨟ type_expr g t) s b at c
+  pub has_type : {c : Cursor} → (be32 b at ≡ 0 → ⊥) → HasIn MaybeTypeAt let_type s b at c → HasIn TypeAt (λ g t. says ": " ⨟ type_expr g t) s b at c
   unfolding Maybe
   has_type {c} f h = go h.tree h.held h.room
     where
-      go : (m : Option TypeExpr) → MaybeTypeAt s b m at → Room (let_type (given s b) m) c → Has TypeAt (λ g t. says ": " ⨟ type_expr g t) s b at c
+      go : (m : Option TypeExpr) → MaybeTypeAt s b m at → Room (let_type (given s b) m) c → HasIn TypeAt (λ g t. says ": " ⨟ type_expr g t) s b at c
       go None a room = absurd (f a.zero)
       go (Some t) a room = record { accepted = h.accepted; tree = t; held = a; room = room }
 
@@ -119,11 +119,11 @@ module _ {s b : List ℕ} {at : ℕ} where
       go (Some t) a = lays_then w (l.of t a)
 
   -- ---- the block of an `else`
-  pub has_block : {c : Cursor} → (be32 b at ≡ 0 → ⊥) → Has MaybeBlockAt otherwise s b at c → Has BlockAt (λ g k. says " else " ⨟ block_rule g k) s b at c
+  pub has_block : {c : Cursor} → (be32 b at ≡ 0 → ⊥) → HasIn MaybeBlockAt otherwise s b at c → HasIn BlockAt (λ g k. says " else " ⨟ block_rule g k) s b at c
   unfolding MaybeBlockAt otherwise
   has_block {c} f h = go h.tree h.held h.room
     where
-      go : (m : MaybeBlock) → MaybeBlockAt s b m at → Room (otherwise (given s b) m) c → Has BlockAt (λ g k. says " else " ⨟ block_rule g k) s b at c
+      go : (m : MaybeBlock) → MaybeBlockAt s b m at → Room (otherwise (given s b) m) c → HasIn BlockAt (λ g k. says " else " ⨟ block_rule g k) s b at c
       go no_block a room = absurd (f a.zero)
       go (some_block k) a room = record { accepted = h.accepted; tree = k; held = a; room = room }
 
@@ -147,12 +147,12 @@ module _ {s b : List ℕ} {at : ℕ} where
 -- ---- patterns
 pub record PatternParts (s b : List ℕ) (at : ℕ) (c : Cursor) : Type 0 where
   pub whole : Whole b at
-  pub name : Has IdentAt ident s b (at + 13) c
+  pub name : HasIn IdentAt ident s b (at + 13) c
   pub fields : InImage b (stop_at b (at + 13))
   pub ends : Ends s b (stop_at b (at + 13)) at
 
 module _ {s b : List ℕ} {at : ℕ} where
-  pub any_room : {c : Cursor} → kind_at b at ≡ 82 → Has PatternAt pattern s b at c → Room (says "_") c
+  pub any_room : {c : Cursor} → kind_at b at ≡ 82 → HasIn PatternAt pattern s b at c → Room (says "_") c
   unfolding PatternAt pattern
   any_room {c} e h = go h.tree h.held h.room
     where
@@ -161,7 +161,7 @@ module _ {s b : List ℕ} {at : ℕ} where
       go (enum_variant i None) a room = absurd (omega (arith, e, a.0.head.kinds))
       go (enum_variant i (Some is)) a room = absurd (omega (arith, e, a.0.head.kinds))
 
-  pub pattern_parts : {c : Cursor} → (kind_at b at ≡ 82 → ⊥) → Has PatternAt pattern s b at c → PatternParts s b at c
+  pub pattern_parts : {c : Cursor} → (kind_at b at ≡ 82 → ⊥) → HasIn PatternAt pattern s b at c → PatternParts s b at c
   unfolding PatternAt pattern
   pattern_parts {c} f h = go h.tree h.held h.room
     where
@@ -179,7 +179,7 @@ module _ {s b : List ℕ} {at : ℕ} where
       go (enum_variant i None) a room = parts i None a room
       go (enum_variant i (Some is)) a room = parts i (Some is) a (room_first _ room)
 
-  pub fields_whole : {c : Cursor} → (kind_at b at ≡ 82 → ⊥) → (be32 b (stop_at b (at + 13)) ≡ 0 → ⊥) → Has PatternAt pattern s b at c
+  pub fields_whole : {c : Cursor} → (kind_at b at ≡ 82 → ⊥) → (be32 b (stop_at b (at + 13)) ≡ 0 → ⊥) → HasIn PatternAt pattern s b at c
       → Whole b (stop_at b (at + 13))
   unfolding PatternAt Maybe
   fields_whole f g h = go h.tree h.held
@@ -190,13 +190,13 @@ module _ {s b : List ℕ} {at : ℕ} where
       go (enum_variant i (Some is)) a = head_whole a.2.head
 
   pub fields_list : {x y : List ℕ} {c d : Cursor} → (kind_at b at ≡ 82 → ⊥) → (be32 b (stop_at b (at + 13)) ≡ 0 → ⊥)
-      → LaysAs IdentAt ident s b (at + 13) x c y d → Has PatternAt pattern s b at c
-      → HasList IdentElem parens (be32 b (stop_at b (at + 13) + 9)) s b (stop_at b (at + 13)) d
+      → LaysAs IdentAt ident s b (at + 13) x c y d → HasIn PatternAt pattern s b at c
+      → HasListIn IdentElem parens (be32 b (stop_at b (at + 13) + 9)) s b (stop_at b (at + 13)) d
   unfolding PatternAt Maybe pattern
   fields_list {c = c} {d = d} f g l h = go h.tree h.held h.room
     where
       go : (p : Pattern) → PatternAt s b p at → Room (pattern (given s b) p) c
-          → HasList IdentElem parens (be32 b (stop_at b (at + 13) + 9)) s b (stop_at b (at + 13)) d
+          → HasListIn IdentElem parens (be32 b (stop_at b (at + 13) + 9)) s b (stop_at b (at + 13)) d
       go underscore a room = absurd (f a.0.head.kinds)
       go (enum_variant i None) a room = absurd (g a.2.zero)
       go (enum_variant i (Some is)) a room =

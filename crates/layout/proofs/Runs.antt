@@ -11,10 +11,14 @@ use Rattle.image.specs.Read.{stop_at}
 use Rattle.ast.specs.Syntax.{Span, Ident, type, Types, no_types, ◌∷ᵗ◌, Fields, no_fields, field, import, Imports, no_imports}
 use Rattle.ast.specs.Syntax.{◌∷ⁱ◌, Variants, no_variants, variant, expr, Exprs, no_exprs, ◌∷ᵉ◌, Entries, no_entries, entry, Arms, no_arms, arm}
 use Rattle.tree.specs.At.{Head, IdentsAt, TypeAt, TypesAt, FieldsAt, ImportAt, ImportsAt, VariantsAt, ExprAt, ExprsAt, EntriesAt, ArmsAt}
+use Rattle.rows.specs.Kinds.{GROUP, INDENT}
 use Rattle.acts.specs.Spelling.{spelling}
 use Rattle.acts.specs.declared.words.Word.TheVariants.{ParenOpen, ParenClose, BracketOpen, BracketClose, BraceOpen, BraceClose}
 use Rattle.acts.specs.Act.{Given, Act, ◌⨟◌, says, grouped, indented}
-use Rattle.acts.specs.Laid.{Room, Laid}
+use Rattle.acts.specs.Laid.{Room, Laid, Opened}
+use Rattle.acts.specs.Does.{Does, Opening}
+use Rattle.acts.specs.declared.State.{State}
+use Rattle.acts.specs.declared.parts.Branch.TheVariants.{Group, Indent}
 use Rattle.acts.specs.declared.Cursor.{Cursor}
 use Rattle.acts.proofs.Laws.{Lays, lays, lays_then, lays_skip, room_first, room_next}
 use Rattle.acts.proofs.Nested.{room_group, laid_group, room_indent, lays_indent}
@@ -25,14 +29,14 @@ use Rattle.layout.specs.declared.forms.ListForm.{ListForm}
 use Rattle.layout.specs.declared.forms.WrapStyle.TheVariants.{Tight}
 use Rattle.layout.specs.Layout.{Elem, elements, separated, inside, before_elem, ident_elems, type_elems, field_elems}
 use Rattle.layout.specs.Layout.{import_elems, variant_elems, expr_elems, grouped_elems, entry_elems, arm_elems, edge, ends}
-use Rattle.layout.specs.Promises.{Has, HasAll, Whole, Readable}
+use Rattle.layout.specs.Promises.{HasIn, HasAllIn, Whole, Readable}
 use Rattle.layout.specs.Elems.{elem_rule, IdentElem, ImportElem, VariantElem, TypeElem, FieldElem, ExprElem, GroupedElem, EntryElem, ArmElem, ElemsAt, mark, elements_rule, ListOf}
-use Rattle.layout.specs.Elems.{starts, list_rule, HasList, HasEmpty, Begins, Begun, HasElems, LaidElems}
+use Rattle.layout.specs.Elems.{starts, list_rule, HasListIn, HasEmptyIn}
 use Rattle.layout.proofs.Lays.{LaysAll, LaysAs, LaysList, LaysEmpty}
 
 -- the first of the elements that are left, and those after it
 pub record MoreElems (P : List ℕ → List ℕ → Elem → ℕ → Type 0) (commas first : Bool) (s b : List ℕ) (p to : ℕ) (c : Cursor) : Type 0 where
-  pub accepted : Readable s b
+  pub accepted : Readable b
   pub elem : Elem
   pub held : P s b elem p
   pub whole : Whole b p
@@ -44,7 +48,7 @@ pub record MoreElems (P : List ℕ → List ℕ → Elem → ℕ → Type 0) (co
       Room (before_elem (given s b) (mark commas) first (be32 b (p + 5)) ⨟ elem.act ⨟ elements (given s b) (mark commas) false rest) c
 
 module _ (P : List ℕ → List ℕ → Elem → ℕ → Type 0) (commas first : Bool) {s b : List ℕ} {p to : ℕ} {c : Cursor} where
-  pub elems_first : p < to → HasAll (ElemsAt P) (elements_rule commas first) s b p to c → MoreElems P commas first s b p to c
+  pub elems_first : p < to → HasAllIn (ElemsAt P) (elements_rule commas first) s b p to c → MoreElems P commas first s b p to c
   unfolding ElemsAt elements
   elems_first lt h = go h.tree h.held h.room
     where
@@ -77,11 +81,11 @@ module _ (P : List ℕ → List ℕ → Elem → ℕ → Type 0) (commas first :
     pub before_room : Room (before_elem (given s b) (mark commas) first n) c
     before_room = room_first _ here
 
-    pub elem_has : {x y : List ℕ} {d : Cursor} → Lays (before_elem (given s b) (mark commas) first n) x c y d → Has P elem_rule s b p d
+    pub elem_has : {x y : List ℕ} {d : Cursor} → Lays (before_elem (given s b) (mark commas) first n) x c y d → HasIn P elem_rule s b p d
     elem_has l = record { accepted = m.accepted; tree = m.elem; held = m.held; room = room_first _ (room_next here l) }
 
     pub elems_rest : {x y z : List ℕ} {d e : Cursor} → Lays (before_elem (given s b) (mark commas) first n) x c y d
-        → LaysAs P elem_rule s b p y d z e → HasAll (ElemsAt P) (elements_rule commas false) s b (stop_at b p) to e
+        → LaysAs P elem_rule s b p y d z e → HasAllIn (ElemsAt P) (elements_rule commas false) s b (stop_at b p) to e
     elems_rest l i =
         record {
           accepted = m.accepted;
@@ -226,16 +230,42 @@ pub list_same : (form : ListForm) (g : Given) (e : Elem) (es : List Elem) {end :
 unfolding separated inside ends
 list_same form g e es p q = rw q refl
 
+-- ---- a list with elements, from its beginning to its end
+-- it is begun: its group is open from c on, what comes before its elements is laid, and its indent is open up to i
+pub record Begun (form : ListForm) (store : List ℕ) (c : Cursor) (store' : List ℕ) (i : Cursor) : Type 0 where
+  pub store₁ : List ℕ
+  pub store₂ : List ℕ
+  pub c₁ : Cursor
+  pub c₂ : Cursor
+  pub group : Opened GROUP c.number 0 1 store c store₁ c₁
+  pub words : Laid (starts form) store₁ c₁ store₂ c₂
+  pub indent : Opened INDENT 0 0 0 store₂ c₂ store' i
+
+pub begun : {form : ListForm} {r q : ℕ} {x y z w : State} → Opening Group x y r → Does (starts form) y z → Opening Indent z w q
+    → Begun form x.store.now x.cursor w.store.now w.cursor
+begun o l i = record { store₁ = _; store₂ = _; c₁ = _; c₂ = _; group = o.opened; words = l.laid; indent = i.opened }
+
+-- its elements are laid from i up to d
+pub record HasElems (form : ListForm) (end : ℕ) (s b : List ℕ) (c i : Cursor) (store : List ℕ) (d : Cursor) : Type 0 where
+  pub store₀ : List ℕ
+  pub store₁ : List ℕ
+  pub begun : Begun form store₀ c store₁ i
+  pub first : Elem
+  pub more : List Elem
+  pub elems : Laid (elements_rule form.commas true (given s b) (first ∷ more)) store₁ i store d
+  pub span : Span
+  pub ended : end ≡ span.end
+  pub room : Room (list_rule form (given s b) (first ∷ more) span) c
+
 module _ {form : ListForm} {end : ℕ} {s b : List ℕ} where
   -- a list that was begun, with its elements laid
-  abbrev ended_list : {x y z : List ℕ} {c i d : Cursor} → Readable s b → Begun form x c y i → (e : Elem) (es : List Elem)
+  abbrev ended_list : {x y z : List ℕ} {c i d : Cursor} → Begun form x c y i → (e : Elem) (es : List Elem)
       → Lays (elements_rule form.commas true (given s b) (e ∷ es)) y i z d → (p : Span) → end ≡ p.end
       → Room (list_rule form (given s b) (e ∷ es) p) c → HasElems form end s b c i z d
-  ended_list {x} {y} {c = c} k w e es l p j room =
+  ended_list {x} {y} {c = c} w e es l p j room =
       let steps : Room (grouped (λ id. list_steps form end id (given s b) (e ∷ es))) c =
       subst (λ (r : Act). Room r c) (list_same form (given s b) e es p j) room in
       record {
-        accepted = k;
         store₀ = x;
         store₁ = y;
         begun = w;
@@ -250,11 +280,11 @@ module _ {form : ListForm} {end : ℕ} {s b : List ℕ} where
 
 module _ {P : List ℕ → List ℕ → Elem → ℕ → Type 0} {form : ListForm} {end : ℕ} {s b : List ℕ} {at : ℕ} where
   -- without elements
-  pub empty_has : {c : Cursor} → at + 13 ≡ stop_at b at → HasList P form end s b at c → HasEmpty form end s b c
+  pub empty_has : {c : Cursor} → at + 13 ≡ stop_at b at → HasListIn P form end s b at c → HasEmptyIn form end s b c
   unfolding ElemsAt
   empty_has {c} q h = go h.tree h.held h.room
     where
-      go : (es : List Elem) → ListOf P s b es at → Room (list_rule form (given s b) es h.span) c → HasEmpty form end s b c
+      go : (es : List Elem) → ListOf P s b es at → Room (list_rule form (given s b) es h.span) c → HasEmptyIn form end s b c
       go [] a room = record { accepted = h.accepted; span = h.span; ended = h.ended; room = room }
       go (i ∷ es) a room = absurd (omega (arith, q, a.elems.0.long, a.elems.1.least))
 
@@ -267,13 +297,13 @@ module _ {P : List ℕ → List ℕ → Elem → ℕ → Type 0} {form : ListFor
       go (i ∷ es) a p e = absurd (omega (arith, q, a.elems.0.long, a.elems.1.least))
 
   -- with elements
-  pub some_elems : {c : Cursor} → (at + 13 ≡ stop_at b at → ⊥) → HasList P form end s b at c
-      → HasAll (ElemsAt P) (λ g es. grouped (λ id. list_steps form end id g es)) s b (at + 13) (stop_at b at) c
+  pub some_elems : {c : Cursor} → (at + 13 ≡ stop_at b at → ⊥) → HasListIn P form end s b at c
+      → HasAllIn (ElemsAt P) (λ g es. grouped (λ id. list_steps form end id g es)) s b (at + 13) (stop_at b at) c
   unfolding ElemsAt
   some_elems {c} q h = go h.tree h.held h.room
     where
       go : (es : List Elem) → ListOf P s b es at → Room (list_rule form (given s b) es h.span) c
-          → HasAll (ElemsAt P) (λ g es. grouped (λ id. list_steps form end id g es)) s b (at + 13) (stop_at b at) c
+          → HasAllIn (ElemsAt P) (λ g es. grouped (λ id. list_steps form end id g es)) s b (at + 13) (stop_at b at) c
       go [] a room = absurd (q a.elems.same)
       go (i ∷ es) a room =
           record {
@@ -285,11 +315,8 @@ module _ {P : List ℕ → List ℕ → Elem → ℕ → Type 0} {form : ListFor
           }
 
   -- a list that is begun has room for its elements
-  module _ (q : at + 13 ≡ stop_at b at → ⊥) {c : Cursor} (h : HasList P form end s b at c) where
-    pub begins : Begins form c
-    begins = record { inner = _; after = _; room = (some_elems q h).room }
-
-    pub elems_all : {x y : List ℕ} {i : Cursor} → Begun form x c y i → HasAll (ElemsAt P) (elements_rule form.commas true) s b (at + 13) (stop_at b at) i
+  module _ (q : at + 13 ≡ stop_at b at → ⊥) {c : Cursor} (h : HasListIn P form end s b at c) where
+    pub elems_all : {x y : List ℕ} {i : Cursor} → Begun form x c y i → HasAllIn (ElemsAt P) (elements_rule form.commas true) s b (at + 13) (stop_at b at) i
     elems_all w =
         let a = some_elems q h in
         record {
@@ -301,25 +328,26 @@ module _ {P : List ℕ → List ℕ → Elem → ℕ → Type 0} {form : ListFor
         }
 
   -- and with them laid it can be ended
-  pub elems_done : (at + 13 ≡ stop_at b at → ⊥) → {x y z : List ℕ} {c i d : Cursor} → HasList P form end s b at c → Begun form x c y i
+  pub elems_done : (at + 13 ≡ stop_at b at → ⊥) → {x y z : List ℕ} {c i d : Cursor} → HasListIn P form end s b at c → Begun form x c y i
       → LaysAll (ElemsAt P) (elements_rule form.commas true) s b (at + 13) (stop_at b at) y i z d → HasElems form end s b c i z d
   unfolding ElemsAt
   elems_done q {x} {y} {z} {c} {i} {d} h w l = go h.tree h.held h.room
     where
       go : (es : List Elem) → ListOf P s b es at → Room (list_rule form (given s b) es h.span) c → HasElems form end s b c i z d
       go [] a room = absurd (q a.elems.same)
-      go (e ∷ es) a room = ended_list h.accepted w e es (l.of (e ∷ es) a.elems) h.span h.ended room
+      go (e ∷ es) a room = ended_list w e es (l.of (e ∷ es) a.elems) h.span h.ended room
 
   -- a list that was begun, whose elements were laid, and that was ended
-  pub list_laid : (at + 13 ≡ stop_at b at → ⊥) → {x y z w : List ℕ} {c i d e : Cursor} → Readable s b → Begun form x c y i
+  pub list_laid : (at + 13 ≡ stop_at b at → ⊥) → {x y z w : List ℕ} {c i d e : Cursor} → Begun form x c y i
       → LaysAll (ElemsAt P) (elements_rule form.commas true) s b (at + 13) (stop_at b at) y i z d
-      → LaidElems form end s b c i z d w e → LaysList P form end s b at x c w e
+      → ((h : HasElems form end s b c i z d) → Laid (list_rule form (given s b) (h.first ∷ h.more) h.span) h.store₀ c w e)
+      → LaysList P form end s b at x c w e
   unfolding ElemsAt
-  list_laid q {x} {y} {z} {w} {c} {i} {d} {e} k u l m = record { of = go }
+  list_laid q {x} {y} {z} {w} {c} {i} {d} {e} u l m = record { of = go }
     where
       go : (es : List Elem) → ListOf P s b es at → (p : Span) → end ≡ p.end → Lays (list_rule form (given s b) es p) x c w e
       go [] a p j = absurd (q a.elems.same)
-      go (f ∷ es) a p j = record { does = λ room. m.of (ended_list k u f es (l.of (f ∷ es) a.elems) p j room) }
+      go (f ∷ es) a p j = record { does = λ room. m (ended_list u f es (l.of (f ∷ es) a.elems) p j room) }
 
 -- ---- the end of a list
 module _ {form : ListForm} {end : ℕ} {s b : List ℕ} {c i d : Cursor} {y : List ℕ} (h : HasElems form end s b c i y d) where

@@ -19,8 +19,8 @@ use Rattle.comments.specs.Listed.{given}
 use Rattle.layout.proofs.Places.{head_whole, type_whole}
 use Rattle.layout.proofs.Runs.{list_of, type_elems_lem, parens, brackets}
 use Rattle.layout.specs.Layout.{type_expr, type_args, type_elems, variant_types, last_span}
-use Rattle.layout.specs.Promises.{Has, Whole, Readable}
-use Rattle.layout.specs.Elems.{TypeElem, HasList}
+use Rattle.layout.specs.Promises.{HasIn, Whole, Readable}
+use Rattle.layout.specs.Elems.{TypeElem, HasListIn}
 use Rattle.layout.specs.Forms.{OfType, type_rule, two, SomeTypesAt, LastEnd}
 use Rattle.layout.proofs.Lays.{LaysAs, LaysList}
 
@@ -64,7 +64,7 @@ module _ (s b : List ℕ) (at : ℕ) where
 
 -- a type whose form is known
 module _ {s b : List ℕ} {at : ℕ} {X : Type 0} (mk : X → TypeForm) (f : (t : TypeExpr) → TypeAt s b t at → IsType mk t) where
-  pub type_has : {c : Cursor} → Has TypeAt type_expr s b at c → Has (OfType mk) (type_rule mk) s b at c
+  pub type_has : {c : Cursor} → HasIn TypeAt type_expr s b at c → HasIn (OfType mk) (type_rule mk) s b at c
   unfolding type_expr
   type_has {c} h =
       let x = f h.tree h.held in
@@ -94,11 +94,11 @@ args_whole s b at f no_args a = absurd (f a.zero)
 args_whole s b at f (args p ts) a = head_whole a.0
 
 module _ {s b : List ℕ} {at : ℕ} where
-  pub args_list : {c : Cursor} → (be32 b at ≡ 0 → ⊥) → Has TypeArgsAt type_args s b at c → HasList TypeElem brackets (be32 b (at + 9)) s b at c
+  pub args_list : {c : Cursor} → (be32 b at ≡ 0 → ⊥) → HasIn TypeArgsAt type_args s b at c → HasListIn TypeElem brackets (be32 b (at + 9)) s b at c
   unfolding TypeArgsAt type_args
   args_list {c} f h = go h.tree h.held h.room
     where
-      go : (q : TypeArgs) → TypeArgsAt s b q at → Room (type_args (given s b) q) c → HasList TypeElem brackets (be32 b (at + 9)) s b at c
+      go : (q : TypeArgs) → TypeArgsAt s b q at → Room (type_args (given s b) q) c → HasListIn TypeElem brackets (be32 b (at + 9)) s b at c
       go no_args a room = absurd (f a.zero)
       go (args p ts) a room =
           record {
@@ -146,9 +146,9 @@ types_laid f h e l no_types a = absurd (f a.same)
 types_laid {s} {b} {at} f h e l (t ∷ᵗ ts) a =
     l.of (type_elems (given s b) (t ∷ᵗ ts)) (list_of h (type_elems_lem s b (stop_at b at) (at + 13) (t ∷ᵗ ts) a)) (last_span t ts) (e.of s t ts a)
 
-pub types_list : {s b : List ℕ} {at r : ℕ} {c : Cursor} {n : ℕ} {q : Span} → Readable s b → (at + 13 ≡ stop_at b at → ⊥) → Head s b n q at
+pub types_list : {s b : List ℕ} {at r : ℕ} {c : Cursor} {n : ℕ} {q : Span} → Readable b → (at + 13 ≡ stop_at b at → ⊥) → Head s b n q at
     → LastEnd b (at + 13) (stop_at b at) r → (ts : Types) → TypesAt s b ts (at + 13) (stop_at b at) → Room (variant_types (given s b) ts) c
-    → HasList TypeElem parens r s b at c
+    → HasListIn TypeElem parens r s b at c
 unfolding TypesAt
 types_list k f h e no_types a room = absurd (f a.same)
 types_list {s} {b} {at} k f h e (t ∷ᵗ ts) a room =

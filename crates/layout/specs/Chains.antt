@@ -5,7 +5,9 @@ use Rattle.tree.specs.At.{ExprAt}
 use Rattle.acts.specs.Act.{Act}
 use Rattle.acts.specs.Laid.{Room, Laid}
 use Rattle.acts.specs.declared.Cursor.{Cursor}
+use Rattle.acts.specs.declared.State.{State}
 use Rattle.comments.specs.Listed.{given}
+use Rattle.comments.specs.declared.parsed.Parsed.{Parsed}
 use Rattle.layout.specs.Layout.{Operands, leftmost, popped, binop_precedence, operands}
 use Rattle.layout.specs.Promises.{Readable}
 use Rattle.layout.specs.Forms.{four, Of, expr_with}
@@ -49,8 +51,8 @@ pub record Leftmost (b : List ℕ) (at q : ℕ) (ops : List ℕ) (left : ℕ) : 
       → Starts q s b (expr t.0 (four bin_op t.1)) at left
 
 -- the operators above the operand at `left`, and room for what follows that operand, which `head` lays
-pub record HasTail (s b : List ℕ) (at left : ℕ) (ops : List ℕ) (c : Cursor) : Type 0 where
-  pub accepted : Readable s b
+pub record HasTailIn (s b : List ℕ) (at left : ℕ) (ops : List ℕ) (c : Cursor) : Type 0 where
+  pub accepted : Readable b
   pub tree : Expr
   pub held : ExprAt s b tree at
   pub precedence : ℕ
@@ -60,5 +62,9 @@ pub record HasTail (s b : List ℕ) (at left : ℕ) (ops : List ℕ) (c : Cursor
   pub head : Act
   pub room : Room (grown above (leftmost head)).ops c
 
-pub record LaidTail (s b : List ℕ) (at left : ℕ) (ops : List ℕ) (store : List ℕ) (c : Cursor) (store' : List ℕ) (c' : Cursor) : Type 0 where
-  pub of : (h : HasTail s b at left ops c) → Laid (grown h.above (leftmost h.head)).ops store c store' c'
+abbrev pub HasTail : Parsed → ℕ → ℕ → List ℕ → Cursor → Type 0
+HasTail p at left ops c = HasTailIn p.source.now p.image.now at left ops c
+
+pub record LaidTail (p : Parsed) (at left : ℕ) (ops : List ℕ) (x y : State) : Type 0 where
+  pub of : (h : HasTail p at left ops x.cursor) → Laid (grown h.above (leftmost h.head)).ops x.store.now x.cursor y.store.now y.cursor
+  pub same : y.store.ghost_name ≡ x.store.ghost_name

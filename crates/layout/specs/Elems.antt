@@ -1,5 +1,5 @@
 -- The contracts of lists: the elements of `separated` in the image, and how a list of them is laid.
-use Rattle.std.specs.Prelude.{ℕ, ◌+◌, ◌≤◌, ◌≡◌, Bool, true, cond, List, [], ◌∷◌, length}
+use Rattle.std.specs.Prelude.{ℕ, ◌+◌, ◌≤◌, ◌≡◌, Bool, cond, List, [], ◌∷◌, length}
 use Prim.Native.String.{String}
 use Rattle.std.specs.Fn.{Shared}
 use denote.Ref.{MutBor}
@@ -8,12 +8,15 @@ use Rattle.image.specs.Kinds.{LIST, NAME_AND_TYPE, VARIANT, FIELD, ARM}
 use Rattle.image.specs.Read.{stop_at}
 use Rattle.ast.specs.Syntax.{Span, Ident, Idents, TypeExpr, Types, Fields, Pattern, MaybeExpr, Expr, Exprs, Entries}
 use Rattle.tree.specs.At.{Head, Record, first_at, second_at, third_at, Ends, Done, Before, IdentAt, TypeAt, TypesAt, ImportAt, PatternAt, MaybeExprAt, ExprAt}
-use Rattle.rows.specs.Kinds.{GROUP, INDENT}
 use Rattle.acts.specs.Spelling.{spelling}
-use Rattle.acts.specs.Act.{Given, Act, ◌⨟◌, grouped, indented}
-use Rattle.acts.specs.Laid.{Room, Laid, Opened}
+use Rattle.acts.specs.Act.{Given, Act, grouped}
+use Rattle.acts.specs.Laid.{Room, Laid}
+use Rattle.acts.specs.Does.{Does}
 use Rattle.acts.specs.declared.Cursor.{Cursor}
+use Rattle.acts.specs.declared.State.{State}
 use Rattle.comments.specs.Listed.{given}
+use Rattle.comments.specs.Parsed.{given_by}
+use Rattle.comments.specs.declared.parsed.Parsed.{Parsed}
 use Rattle.layout.specs.declared.forms.ListForm.{ListForm}
 use Rattle.layout.specs.declared.forms.WrapStyle.{WrapStyle}
 use Rattle.layout.specs.Promises.{Readable}
@@ -109,11 +112,10 @@ pub record ElemAt (P : List ℕ → List ℕ → Elem → ℕ → Type 0) (s b :
   pub item : P s b e at
 
 -- the closure f lays the element e, which is at `at`
-pub record Laying {F : Type 0} (g : Shared F (MutBor (List ℕ) × (Cursor × (ℕ × Unit {0}))) (Cursor × (MutBor (List ℕ) × Unit {0}))) (f : F)
+pub record Laying {F : Type 0} (g : Shared F (MutBor State × (ℕ × Unit {0})) (Unit {0} × (MutBor State × Unit {0}))) (f : F)
     (s b : List ℕ) (e : Elem) (at : ℕ) : Type 0 where
-  pub takes : (x : MutBor (List ℕ)) (c : Cursor) → Room e.act c → g.pre f (x, (c, (at, tt)))
-  pub lays :
-      (x y : MutBor (List ℕ)) (c d : Cursor) → Room e.act c → g.post f (x, (c, (at, tt))) (d, (y, tt)) → Laid e.act x.now c y.now d
+  pub takes : (x : MutBor State) → Room e.act x.now.cursor → g.pre f (x, (at, tt))
+  pub lays : (x y : MutBor State) → Room e.act x.now.cursor → g.post f (x, (at, tt)) (tt, (y, tt)) → Does e.act x.now y.now
 
 -- elements one after the other
 unfoldable pub ElemsAt : (List ℕ → List ℕ → Elem → ℕ → Type 0) → List ℕ → List ℕ → List Elem → ℕ → ℕ → Type 0
@@ -143,60 +145,35 @@ list_rule form g es span =
     separated g (spelling form.left) (spelling form.right) (mark form.commas) es span form.style
 
 -- a list is at `at`, and there is room for `separated` over a span that ends at `end`
-pub record HasList (P : List ℕ → List ℕ → Elem → ℕ → Type 0) (form : ListForm) (end : ℕ) (s b : List ℕ) (at : ℕ) (c : Cursor) : Type 0 where
-  pub accepted : Readable s b
+pub record HasListIn (P : List ℕ → List ℕ → Elem → ℕ → Type 0) (form : ListForm) (end : ℕ) (s b : List ℕ) (at : ℕ) (c : Cursor) : Type 0 where
+  pub accepted : Readable b
   pub tree : List Elem
   pub held : ListOf P s b tree at
   pub span : Span
   pub ended : end ≡ span.end
   pub room : Room (list_rule form (given s b) tree span) c
 
-pub record LaidList (P : List ℕ → List ℕ → Elem → ℕ → Type 0) (form : ListForm) (end : ℕ)
-    (s b : List ℕ) (at : ℕ) (store : List ℕ) (c : Cursor) (store' : List ℕ) (c' : Cursor) : Type 0 where
-  pub of : (h : HasList P form end s b at c) → Laid (list_rule form (given s b) h.tree h.span) store c store' c'
+abbrev pub HasList : (List ℕ → List ℕ → Elem → ℕ → Type 0) → ListForm → ℕ → Parsed → ℕ → Cursor → Type 0
+HasList P form end p at c = HasListIn P form end p.source.now p.image.now at c
+
+pub record LaidList (P : List ℕ → List ℕ → Elem → ℕ → Type 0) (form : ListForm) (end : ℕ) (p : Parsed) (at : ℕ) (x y : State) : Type 0 where
+  pub of :
+      (h : HasList P form end p at x.cursor) → Laid (list_rule form (given_by p) h.tree h.span) x.store.now x.cursor y.store.now y.cursor
+  pub same : y.store.ghost_name ≡ x.store.ghost_name
 
 -- the same where there is no element
-pub record HasEmpty (form : ListForm) (end : ℕ) (s b : List ℕ) (c : Cursor) : Type 0 where
-  pub accepted : Readable s b
+pub record HasEmptyIn (form : ListForm) (end : ℕ) (s b : List ℕ) (c : Cursor) : Type 0 where
+  pub accepted : Readable b
   pub span : Span
   pub ended : end ≡ span.end
   pub room : Room (list_rule form (given s b) [] span) c
 
-pub record LaidEmpty (form : ListForm) (end : ℕ) (s b : List ℕ) (store : List ℕ) (c : Cursor) (store' : List ℕ) (c' : Cursor) : Type 0 where
-  pub of : (h : HasEmpty form end s b c) → Laid (list_rule form (given s b) [] h.span) store c store' c'
+abbrev pub HasEmpty : ListForm → ℕ → Parsed → Cursor → Type 0
+HasEmpty form end p c = HasEmptyIn form end p.source.now p.image.now c
 
--- there is room to begin a list, whatever is laid inside its indent and after it
-pub record Begins (form : ListForm) (c : Cursor) : Type 0 where
-  pub inner : ℕ → Act
-  pub after : ℕ → Act
-  pub room : Room (grouped (λ id. starts form ⨟ indented (inner id) ⨟ after id)) c
-
--- a list is begun: its group is open from c on, what comes before its elements is laid, and its indent is open up to i
-pub record Begun (form : ListForm) (store : List ℕ) (c : Cursor) (store' : List ℕ) (i : Cursor) : Type 0 where
-  pub store₁ : List ℕ
-  pub store₂ : List ℕ
-  pub c₁ : Cursor
-  pub c₂ : Cursor
-  pub group : Opened GROUP c.number 0 1 store c store₁ c₁
-  pub words : Laid (starts form) store₁ c₁ store₂ c₂
-  pub indent : Opened INDENT 0 0 0 store₂ c₂ store' i
-
--- a list was begun at c, and its elements are laid from i up to d
-pub record HasElems (form : ListForm) (end : ℕ) (s b : List ℕ) (c i : Cursor) (store : List ℕ) (d : Cursor) : Type 0 where
-  pub accepted : Readable s b
-  pub store₀ : List ℕ
-  pub store₁ : List ℕ
-  pub begun : Begun form store₀ c store₁ i
-  pub first : Elem
-  pub more : List Elem
-  pub elems : Laid (elements_rule form.commas true (given s b) (first ∷ more)) store₁ i store d
-  pub span : Span
-  pub ended : end ≡ span.end
-  pub room : Room (list_rule form (given s b) (first ∷ more) span) c
-
--- the whole list is laid
-pub record LaidElems (form : ListForm) (end : ℕ) (s b : List ℕ) (c i : Cursor) (store : List ℕ) (d : Cursor) (store' : List ℕ) (c' : Cursor) : Type 0 where
-  pub of : (h : HasElems form end s b c i store d) → Laid (list_rule form (given s b) (h.first ∷ h.more) h.span) h.store₀ c store' c'
+pub record LaidEmpty (form : ListForm) (end : ℕ) (p : Parsed) (x y : State) : Type 0 where
+  pub of : (h : HasEmpty form end p x.cursor) → Laid (list_rule form (given_by p) [] h.span) x.store.now x.cursor y.store.now y.cursor
+  pub same : y.store.ghost_name ≡ x.store.ghost_name
 
 -- ---- the lists that have a name in the Rust
 -- a record of a kind that holds parts one after the other

@@ -4,18 +4,20 @@ ghost use Rattle.image.specs.Bytes.{be32};
 ghost use Rattle.image.specs.Kinds.{BLOCK_EXPR, MATCH, IF_ELSE, FOR};
 ghost use Rattle.image.specs.Read.{stop_at, kind_at};
 ghost use Rattle.acts.specs.Act.{when, says};
-ghost use Rattle.acts.specs.Laid.{Room, Laid};
-ghost use Rattle.comments.specs.Listed.{given};
+ghost use Rattle.acts.specs.Laid.{Room};
+ghost use Rattle.acts.specs.Does.{Does};
+ghost use Rattle.comments.specs.Parsed.{given_by};
 ghost use Rattle.layout.specs.Layout.{before_stmt, after_stmt, block_start, let_type};
-ghost use Rattle.layout.specs.Promises.{Readable, Has, LaidAs, InImage, Whole};
+ghost use Rattle.layout.specs.Promises.{Has, LaidAs, InImage, Whole};
 ghost use Rattle.layout.specs.Forms.{MaybeTypeAt};
 
 use crate::numbers::{HEAD, is_absent, kind, second};
 use crate::pieces::gap;
 use crate::types::type_expr;
-use acts::Cursor;
-use acts::leaves::{line, word, wrap_parent};
+use acts::State;
+use acts::leaves::Leaf;
 use acts::words::Word;
+use comments::parsed::Parsed;
 use comments::{Kept, pop_trailing_comment};
 use image::kinds;
 
@@ -37,91 +39,84 @@ pub(crate) fn is_empty(b: &[u8], at: usize) -> bool
 }
 
 // How a block starts.
-pub(crate) fn block_start(store: &mut [u32], c: Cursor, empty: bool) -> Cursor
-    requires { Room (block_start empty) c }
-    ensures { Laid (block_start empty) store.old c store.new result }
+pub(crate) fn block_start(state: &mut State<'_>, empty: bool)
+    requires { Room (block_start empty) state.old.cursor }
+    ensures { Does (block_start empty) state.old state.new }
 {
-    let d = word(store, c, Word::BraceOpen);
-    let e = line(store, d);
+    state.word(Word::BraceOpen);
+    state.push(Leaf::Line);
     if empty {
-        return e;
+        return;
     }
-    wrap_parent(store, e)
+    state.push(Leaf::WrapParent);
 }
 
 // What comes before a statement, or before the last expression.
-pub(crate) fn before_stmt(
-    store: &mut [u32],
-    c: Cursor,
-    s: &[u8],
-    b: &[u8],
-    position: u32,
-    first: bool,
-) -> Cursor
-    requires readable { Readable s.now b.now }
-    requires room { Room (before_stmt (given s.now b.now) first position) c }
-    ensures { Laid (before_stmt (given s.now b.now) first position) store.old c store.new result }
+pub(crate) fn before_stmt(state: &mut State<'_>, parsed: &Parsed<'_>, position: u32, first: bool)
+    requires { Room (before_stmt (given_by parsed.now) first position) state.old.cursor }
+    ensures { Does (before_stmt (given_by parsed.now) first position) state.old state.new }
 {
     if first {
-        let d = gap(store, c, s, b, position, &Kept::AFTER_COMMENTS);
-        return line(store, d);
+        gap(state, parsed, position, &Kept::AFTER_COMMENTS);
+        state.push(Leaf::Line);
+        return;
     }
-    let d = gap(store, c, s, b, position, &Kept::ALL);
-    line(store, d)
+    gap(state, parsed, position, &Kept::ALL);
+    state.push(Leaf::Line);
 }
 
 // What comes after a statement.
-pub(crate) fn after_stmt(store: &mut [u32], c: Cursor, s: &[u8], b: &[u8], position: u32) -> Cursor
-    requires readable { Readable s.now b.now }
-    requires room { Room (after_stmt (given s.now b.now) position) c }
-    ensures { Laid (after_stmt (given s.now b.now) position) store.old c store.new result }
+pub(crate) fn after_stmt(state: &mut State<'_>, parsed: &Parsed<'_>, position: u32)
+    requires { Room (after_stmt (given_by parsed.now) position) state.old.cursor }
+    ensures { Does (after_stmt (given_by parsed.now) position) state.old state.new }
 {
-    let d = gap(store, c, s, b, position, &Kept::NONE);
-    pop_trailing_comment(store, d, s, b)
+    gap(state, parsed, position, &Kept::NONE);
+    pop_trailing_comment(state, parsed);
 }
 
 // The comma after an arm, unless its body, which is at `at`, is a block.
-pub(crate) fn arm_comma(store: &mut [u32], c: Cursor, b: &[u8], at: usize) -> Cursor
-    requires whole { Whole b.now at }
-    requires room { Room (when (not (eqb (kind_at b.now at) BLOCK_EXPR)) (says ",")) c }
-    ensures { Laid (when (not (eqb (kind_at b.now at) BLOCK_EXPR)) (says ",")) store.old c store.new result }
+pub(crate) fn arm_comma(state: &mut State<'_>, image: &[u8], at: usize)
+    requires whole { Whole image.now at }
+    requires room { Room (when (not (eqb (kind_at image.now at) BLOCK_EXPR)) (says ",")) state.old.cursor }
+    ensures { Does (when (not (eqb (kind_at image.now at) BLOCK_EXPR)) (says ",")) state.old state.new }
 {
-    if kind(b, at) == kinds::BLOCK_EXPR {
-        return c;
+    if kind(image, at) == kinds::BLOCK_EXPR {
+        return;
     }
-    word(store, c, Word::Comma)
+    state.word(Word::Comma);
 }
 
 // The semicolon after an expression, which is at `at`, unless it ends with a brace: block, match, if, while or for.
-pub(crate) fn semicolon(store: &mut [u32], c: Cursor, b: &[u8], at: usize) -> Cursor
-    requires whole { Whole b.now at }
-    requires room { Room (when (not (eqb (kind_at b.now at) BLOCK_EXPR || eqb (kind_at b.now at) MATCH || (leb IF_ELSE (kind_at b.now at) && leb (kind_at b.now at) FOR))) (says ";")) c }
-    ensures { Laid (when (not (eqb (kind_at b.now at) BLOCK_EXPR || eqb (kind_at b.now at) MATCH || (leb IF_ELSE (kind_at b.now at) && leb (kind_at b.now at) FOR))) (says ";")) store.old c store.new result }
+pub(crate) fn semicolon(state: &mut State<'_>, image: &[u8], at: usize)
+    requires whole { Whole image.now at }
+    requires room { Room (when (not (eqb (kind_at image.now at) BLOCK_EXPR || eqb (kind_at image.now at) MATCH || (leb IF_ELSE (kind_at image.now at) && leb (kind_at image.now at) FOR))) (says ";")) state.old.cursor }
+    ensures { Does (when (not (eqb (kind_at image.now at) BLOCK_EXPR || eqb (kind_at image.now at) MATCH || (leb IF_ELSE (kind_at image.now at) && leb (kind_at image.now at) FOR))) (says ";")) state.old state.new }
 {
-    let k = kind(b, at);
+    let k = kind(image, at);
     if k == kinds::BLOCK_EXPR {
-        return c;
+        return;
     }
     if k == kinds::MATCH {
-        return c;
+        return;
     }
     if k < kinds::IF_ELSE {
-        return word(store, c, Word::Semicolon);
+        state.word(Word::Semicolon);
+        return;
     }
     if k <= kinds::FOR {
-        return c;
+        return;
     }
-    word(store, c, Word::Semicolon)
+    state.word(Word::Semicolon);
 }
 
 // The type of a `let`, where it is there.
-pub(crate) fn let_type(store: &mut [u32], c: Cursor, s: &[u8], b: &[u8], at: usize) -> Cursor
-    requires { Has MaybeTypeAt let_type s.now b.now at c }
-    ensures { LaidAs MaybeTypeAt let_type s.now b.now at store.old c store.new result }
+pub(crate) fn let_type(state: &mut State<'_>, parsed: &Parsed<'_>, at: usize)
+    requires { Has MaybeTypeAt let_type parsed.now at state.old.cursor }
+    ensures { LaidAs MaybeTypeAt let_type parsed.now at state.old state.new }
 {
-    if is_absent(b, at) {
-        return c;
+    if is_absent(parsed.image, at) {
+        return;
     }
-    let d = word(store, c, Word::Colon);
-    type_expr(store, d, s, b, at)
+    state.word(Word::Colon);
+    type_expr(state, parsed, at);
 }

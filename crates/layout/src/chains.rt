@@ -1,11 +1,6 @@
 // The parts of `binop` that lay no operand.
-ghost use Rattle.std.specs.Prelude.{◌≡◌, not, ◌&&◌, ◌+◌, ◌≤◌, get_or, length};
+ghost use Rattle.std.specs.Prelude.{◌≡◌, ◌+◌, ◌≤◌, get_or, length};
 ghost use Rattle.image.specs.Read.{stop_at};
-ghost use Rattle.rows.specs.Node.{line_or_space};
-ghost use Rattle.ast.specs.Syntax.{bin_op};
-ghost use Rattle.acts.specs.Act.{when, push};
-ghost use Rattle.acts.specs.Laid.{Room, Laid};
-ghost use Rattle.comments.specs.Comments.{whitespace};
 ghost use Rattle.layout.specs.Layout.{binop_precedence};
 ghost use Rattle.layout.specs.Promises.{Has, LaidAs, InImage};
 ghost use Rattle.layout.specs.Forms.{OperatorAt, operator_rule};
@@ -15,10 +10,12 @@ ghost use Rattle.layout.specs.Ranks.{rank};
 use crate::forms::Precedence;
 use crate::numbers::{HEAD, kind, payload, second, start};
 use crate::operators::{binop_precedence, symbol};
-use acts::Cursor;
-use acts::leaves::{line_or_space, word};
+use crate::pieces::between;
+use acts::State;
+use acts::leaves::Leaf;
 use acts::words::Word;
-use comments::{Gap, Kept, is_whitespace, pop_whitespace};
+use comments::parsed::Parsed;
+use comments::{Kept, pop_whitespace};
 use image::kinds;
 
 // The precedence of the operator at `at`.
@@ -30,37 +27,17 @@ pub(crate) fn precedence(b: &[u8], at: usize) -> Precedence
     binop_precedence(payload(b, second(b, at)))
 }
 
-// A line or a space, except before the first operator and after a comment.
-fn between(store: &mut [u32], c: Cursor, first: bool, gap: Gap) -> Cursor
-    requires { Room (when (not first && not (whitespace gap)) (push line_or_space)) c }
-    ensures { Laid (when (not first && not (whitespace gap)) (push line_or_space)) store.old c store.new result }
-{
-    if first {
-        return c;
-    }
-    if is_whitespace(gap) {
-        return c;
-    }
-    line_or_space(store, c)
-}
-
 // What comes before the right operand of the operator whose symbol is at `at`.
-pub(crate) fn operator(
-    store: &mut [u32],
-    c: Cursor,
-    s: &[u8],
-    b: &[u8],
-    at: usize,
-    first: bool,
-) -> Cursor
-    requires { Has OperatorAt (operator_rule first) s.now b.now at c }
-    ensures { LaidAs OperatorAt (operator_rule first) s.now b.now at store.old c store.new result }
+pub(crate) fn operator(state: &mut State<'_>, parsed: &Parsed<'_>, at: usize, first: bool)
+    requires { Has OperatorAt (operator_rule first) parsed.now at state.old.cursor }
+    ensures { LaidAs OperatorAt (operator_rule first) parsed.now at state.old state.new }
 {
-    let k = symbol(payload(b, at));
-    let a = pop_whitespace(store, c, s, b, start(b, at), &Kept::AROUND_COMMENTS);
-    let d = between(store, a.cursor, first, a.gap);
-    let e = word(store, d, k);
-    word(store, e, Word::Space)
+    let image = parsed.image;
+    let k = symbol(payload(image, at));
+    let gap = pop_whitespace(state, parsed, start(image, at), &Kept::AROUND_COMMENTS);
+    between(state, Leaf::LineOrSpace, first, gap);
+    state.word(k);
+    state.word(Word::Space);
 }
 
 // The offset of the operand that starts the chain of operators of precedence q at `at`. The operators go onto the stack, the top first.

@@ -1,14 +1,11 @@
 // `declaration`, and the parts of `fmt_parsed`.
-ghost use Rattle.std.specs.Prelude.{◌≡◌, true, not, ◌&&◌};
-ghost use Rattle.rows.specs.Node.{line};
 ghost use Rattle.ast.specs.Syntax.{filter_map, const, record_decl, enum_decl, function, test, import_decl};
 ghost use Rattle.tree.specs.At.{IdentAt, DeclarationsAt};
-ghost use Rattle.acts.specs.Act.{when, push};
-ghost use Rattle.acts.specs.Laid.{Room, Laid};
-ghost use Rattle.comments.specs.Comments.{whitespace};
-ghost use Rattle.comments.specs.Listed.{given};
+ghost use Rattle.acts.specs.Laid.{Room};
+ghost use Rattle.acts.specs.Does.{Does};
+ghost use Rattle.comments.specs.Parsed.{given_by};
 ghost use Rattle.layout.specs.Layout.{opening, some_type_params, return_type, shebang_rule};
-ghost use Rattle.layout.specs.Promises.{Readable, Has, LaidAs, HasAll, LaidAll};
+ghost use Rattle.layout.specs.Promises.{Has, LaidAs, HasAll, LaidAll};
 ghost use Rattle.layout.specs.Elems.{VariantAt, variant_rule};
 ghost use Rattle.layout.specs.Forms.{two, three, four, five, OfDeclaration, declaration_rule, any_declaration, declares_at, MaybeListAt};
 ghost use Rattle.layout.specs.Forms.{MaybeTypeAt, MaybeIdentAt, declarations_from};
@@ -19,242 +16,216 @@ use crate::imports::import_path;
 use crate::lists::separated;
 use crate::numbers::{HEAD, end, is_absent, kind, past, second, start, third};
 use crate::paths::ident;
+use crate::pieces::between;
 use crate::types::{params, record_type, type_expr};
 use crate::variants::variant;
 use crate::{block, expr};
-use acts::Cursor;
-use acts::leaves::{empty_line, line, str, word};
+use acts::State;
+use acts::leaves::Leaf;
 use acts::words::Word;
-use comments::{Gap, Kept, is_whitespace, pop_whitespace};
+use comments::parsed::Parsed;
+use comments::{Kept, pop_whitespace};
 use image::bytes::num16;
 use image::kinds;
 use rows::units::{Bytes, Columns};
 use text::space::trim_end;
 
-// A line, except before the file's first declaration and after white space.
-fn line_between(store: &mut [u32], c: Cursor, first: bool, gap: Gap) -> Cursor
-    requires { Room (when (not first && not (whitespace gap)) (push line)) c }
-    ensures { Laid (when (not first && not (whitespace gap)) (push line)) store.old c store.new result }
-{
-    if first {
-        return c;
-    }
-    if is_whitespace(gap) {
-        return c;
-    }
-    line(store, c)
-}
-
 // How each declaration begins.
-fn opening(store: &mut [u32], c: Cursor, s: &[u8], b: &[u8], position: u32, first: bool) -> Cursor
-    requires readable { Readable s.now b.now }
-    requires room { Room (opening (given s.now b.now) position first) c }
-    ensures { Laid (opening (given s.now b.now) position first) store.old c store.new result }
+fn opening(state: &mut State<'_>, parsed: &Parsed<'_>, position: u32, first: bool)
+    requires { Room (opening (given_by parsed.now) position first) state.old.cursor }
+    ensures { Does (opening (given_by parsed.now) position first) state.old state.new }
 {
     let kept = Kept {
         leading: !first,
         only: !first,
         ..Kept::AFTER_COMMENTS
     };
-    let a = pop_whitespace(store, c, s, b, position, &kept);
-    line_between(store, a.cursor, first, a.gap)
+    let gap = pop_whitespace(state, parsed, position, &kept);
+    between(state, Leaf::Line, first, gap);
 }
 
 // The start of each declaration but `import`: a word, and the name at `at`.
-fn declares(
-    store: &mut [u32],
-    c: Cursor,
-    s: &[u8],
-    b: &[u8],
-    at: usize,
-    k: Word,
-    first: bool,
-) -> Cursor
-    requires { Has IdentAt (declares_at k first) s.now b.now at c }
-    ensures { LaidAs IdentAt (declares_at k first) s.now b.now at store.old c store.new result }
+fn declares(state: &mut State<'_>, parsed: &Parsed<'_>, at: usize, k: Word, first: bool)
+    requires { Has IdentAt (declares_at k first) parsed.now at state.old.cursor }
+    ensures { LaidAs IdentAt (declares_at k first) parsed.now at state.old state.new }
 {
-    let d = opening(store, c, s, b, start(b, at), first);
-    let e = word(store, d, k);
-    ident(store, e, s, b, at)
+    opening(state, parsed, start(parsed.image, at), first);
+    state.word(k);
+    ident(state, parsed, at);
 }
 
 // Type parameters, where there are any.
-fn some_type_params(store: &mut [u32], c: Cursor, s: &[u8], b: &[u8], at: usize) -> Cursor
-    requires { Has MaybeListAt some_type_params s.now b.now at c }
-    ensures { LaidAs MaybeListAt some_type_params s.now b.now at store.old c store.new result }
+fn some_type_params(state: &mut State<'_>, parsed: &Parsed<'_>, at: usize)
+    requires { Has MaybeListAt some_type_params parsed.now at state.old.cursor }
+    ensures { LaidAs MaybeListAt some_type_params parsed.now at state.old state.new }
 {
-    if is_absent(b, at) {
-        return c;
+    let image = parsed.image;
+    if is_absent(image, at) {
+        return;
     }
-    if at + HEAD == past(b, at) {
-        return c;
+    if at + HEAD == past(image, at) {
+        return;
     }
-    type_params(store, c, s, b, at)
+    type_params(state, parsed, at);
 }
 
 // The type that a function returns, where it says one.
-fn return_type(store: &mut [u32], c: Cursor, s: &[u8], b: &[u8], at: usize) -> Cursor
-    requires { Has MaybeTypeAt return_type s.now b.now at c }
-    ensures { LaidAs MaybeTypeAt return_type s.now b.now at store.old c store.new result }
+fn return_type(state: &mut State<'_>, parsed: &Parsed<'_>, at: usize)
+    requires { Has MaybeTypeAt return_type parsed.now at state.old.cursor }
+    ensures { LaidAs MaybeTypeAt return_type parsed.now at state.old state.new }
 {
-    if is_absent(b, at) {
-        return c;
+    if is_absent(parsed.image, at) {
+        return;
     }
-    let d = word(store, c, Word::Arrow);
-    let e = type_expr(store, d, s, b, at);
-    word(store, e, Word::Space)
+    state.word(Word::Arrow);
+    type_expr(state, parsed, at);
+    state.word(Word::Space);
 }
 
-fn filter_map(store: &mut [u32], c: Cursor, s: &[u8], b: &[u8], at: usize, first: bool) -> Cursor
-    requires { Has (OfDeclaration (four filter_map)) (declaration_rule (four filter_map) first) s.now b.now at c }
-    ensures { LaidAs (OfDeclaration (four filter_map)) (declaration_rule (four filter_map) first) s.now b.now at store.old c store.new result }
+fn filter_map(state: &mut State<'_>, parsed: &Parsed<'_>, at: usize, first: bool)
+    requires { Has (OfDeclaration (four filter_map)) (declaration_rule (four filter_map) first) parsed.now at state.old.cursor }
+    ensures { LaidAs (OfDeclaration (four filter_map)) (declaration_rule (four filter_map) first) parsed.now at state.old state.new }
 {
-    let p = second(b, at);
-    let q = third(b, at);
-    let d = declares(store, c, s, b, at + HEAD, Word::FilterMap, first);
-    let e = params(store, d, s, b, p);
-    let f = word(store, e, Word::Space);
-    block(store, f, s, b, q)
+    let image = parsed.image;
+    let p = second(image, at);
+    let q = third(image, at);
+    declares(state, parsed, at + HEAD, Word::FilterMap, first);
+    params(state, parsed, p);
+    state.word(Word::Space);
+    block(state, parsed, q);
 }
 
-fn constant(store: &mut [u32], c: Cursor, s: &[u8], b: &[u8], at: usize, first: bool) -> Cursor
-    requires { Has (OfDeclaration (three const)) (declaration_rule (three const) first) s.now b.now at c }
-    ensures { LaidAs (OfDeclaration (three const)) (declaration_rule (three const) first) s.now b.now at store.old c store.new result }
+fn constant(state: &mut State<'_>, parsed: &Parsed<'_>, at: usize, first: bool)
+    requires { Has (OfDeclaration (three const)) (declaration_rule (three const) first) parsed.now at state.old.cursor }
+    ensures { LaidAs (OfDeclaration (three const)) (declaration_rule (three const) first) parsed.now at state.old state.new }
 {
-    let p = second(b, at);
-    let q = third(b, at);
-    let d = declares(store, c, s, b, at + HEAD, Word::Const, first);
-    let e = word(store, d, Word::Colon);
-    let f = type_expr(store, e, s, b, p);
-    let g = word(store, f, Word::Assign);
-    let h = expr(store, g, s, b, q);
-    word(store, h, Word::Semicolon)
+    let image = parsed.image;
+    let p = second(image, at);
+    let q = third(image, at);
+    declares(state, parsed, at + HEAD, Word::Const, first);
+    state.word(Word::Colon);
+    type_expr(state, parsed, p);
+    state.word(Word::Assign);
+    expr(state, parsed, q);
+    state.word(Word::Semicolon);
 }
 
-fn decl_record(store: &mut [u32], c: Cursor, s: &[u8], b: &[u8], at: usize, first: bool) -> Cursor
-    requires { Has (OfDeclaration (four record_decl)) (declaration_rule (four record_decl) first) s.now b.now at c }
-    ensures { LaidAs (OfDeclaration (four record_decl)) (declaration_rule (four record_decl) first) s.now b.now at store.old c store.new result }
+fn decl_record(state: &mut State<'_>, parsed: &Parsed<'_>, at: usize, first: bool)
+    requires { Has (OfDeclaration (four record_decl)) (declaration_rule (four record_decl) first) parsed.now at state.old.cursor }
+    ensures { LaidAs (OfDeclaration (four record_decl)) (declaration_rule (four record_decl) first) parsed.now at state.old state.new }
 {
-    let p = second(b, at);
-    let q = third(b, at);
-    let d = declares(store, c, s, b, at + HEAD, Word::Record, first);
-    let e = some_type_params(store, d, s, b, p);
-    let f = word(store, e, Word::Space);
-    record_type(store, f, s, b, q, WrapStyle::Wrap)
+    let image = parsed.image;
+    let p = second(image, at);
+    let q = third(image, at);
+    declares(state, parsed, at + HEAD, Word::Record, first);
+    some_type_params(state, parsed, p);
+    state.word(Word::Space);
+    record_type(state, parsed, q, WrapStyle::Wrap);
 }
 
-fn decl_enum(store: &mut [u32], c: Cursor, s: &[u8], b: &[u8], at: usize, first: bool) -> Cursor
-    requires { Has (OfDeclaration (four enum_decl)) (declaration_rule (four enum_decl) first) s.now b.now at c }
-    ensures { LaidAs (OfDeclaration (four enum_decl)) (declaration_rule (four enum_decl) first) s.now b.now at store.old c store.new result }
+fn decl_enum(state: &mut State<'_>, parsed: &Parsed<'_>, at: usize, first: bool)
+    requires { Has (OfDeclaration (four enum_decl)) (declaration_rule (four enum_decl) first) parsed.now at state.old.cursor }
+    ensures { LaidAs (OfDeclaration (four enum_decl)) (declaration_rule (four enum_decl) first) parsed.now at state.old state.new }
 {
-    let p = second(b, at);
-    let q = third(b, at);
-    let d = declares(store, c, s, b, at + HEAD, Word::Enum, first);
-    let e = some_type_params(store, d, s, b, p);
-    let f = word(store, e, Word::Space);
+    let image = parsed.image;
+    let p = second(image, at);
+    let q = third(image, at);
+    declares(state, parsed, at + HEAD, Word::Enum, first);
+    some_type_params(state, parsed, p);
+    state.word(Word::Space);
     let form = ListForm {
         style: WrapStyle::Wrap,
         ..BRACES
     };
-    let item = |rows: &mut [u32], g: Cursor, r: usize| -> Cursor
-        requires { Has VariantAt variant_rule s.now b.now r g }
-        ensures { LaidAs VariantAt variant_rule s.entry.now b.entry.now r rows.old g rows.new result }
-    { variant(rows, g, s, b, r) };
-    separated(store, f, s, b, q, end(b, q), form, item)
+    let item = |inner: &mut State<'_>, r: usize|
+        requires { Has VariantAt variant_rule parsed.now r inner.old.cursor }
+        ensures { LaidAs VariantAt variant_rule parsed.entry.now r inner.old inner.new }
+    { variant(inner, parsed, r) };
+    separated(state, parsed, q, end(image, q), form, item);
 }
 
-fn function(store: &mut [u32], c: Cursor, s: &[u8], b: &[u8], at: usize, first: bool) -> Cursor
-    requires { Has (OfDeclaration (five function)) (declaration_rule (five function) first) s.now b.now at c }
-    ensures { LaidAs (OfDeclaration (five function)) (declaration_rule (five function) first) s.now b.now at store.old c store.new result }
+fn function(state: &mut State<'_>, parsed: &Parsed<'_>, at: usize, first: bool)
+    requires { Has (OfDeclaration (five function)) (declaration_rule (five function) first) parsed.now at state.old.cursor }
+    ensures { LaidAs (OfDeclaration (five function)) (declaration_rule (five function) first) parsed.now at state.old state.new }
 {
-    let p = second(b, at);
-    let q = third(b, at);
-    let d = declares(store, c, s, b, at + HEAD, Word::Fn, first);
-    let e = params(store, d, s, b, p);
-    let f = word(store, e, Word::Space);
-    let g = return_type(store, f, s, b, q);
-    block(store, g, s, b, past(b, q))
+    let image = parsed.image;
+    let p = second(image, at);
+    let q = third(image, at);
+    declares(state, parsed, at + HEAD, Word::Fn, first);
+    params(state, parsed, p);
+    state.word(Word::Space);
+    return_type(state, parsed, q);
+    block(state, parsed, past(image, q));
 }
 
-fn test(store: &mut [u32], c: Cursor, s: &[u8], b: &[u8], at: usize, first: bool) -> Cursor
-    requires { Has (OfDeclaration (two test)) (declaration_rule (two test) first) s.now b.now at c }
-    ensures { LaidAs (OfDeclaration (two test)) (declaration_rule (two test) first) s.now b.now at store.old c store.new result }
+fn test(state: &mut State<'_>, parsed: &Parsed<'_>, at: usize, first: bool)
+    requires { Has (OfDeclaration (two test)) (declaration_rule (two test) first) parsed.now at state.old.cursor }
+    ensures { LaidAs (OfDeclaration (two test)) (declaration_rule (two test) first) parsed.now at state.old state.new }
 {
-    let p = second(b, at);
-    let d = declares(store, c, s, b, at + HEAD, Word::Test, first);
-    let e = word(store, d, Word::Space);
-    block(store, e, s, b, p)
+    let p = second(parsed.image, at);
+    declares(state, parsed, at + HEAD, Word::Test, first);
+    state.word(Word::Space);
+    block(state, parsed, p);
 }
 
-fn decl_import(store: &mut [u32], c: Cursor, s: &[u8], b: &[u8], at: usize, first: bool) -> Cursor
-    requires { Has (OfDeclaration import_decl) (declaration_rule import_decl first) s.now b.now at c }
-    ensures { LaidAs (OfDeclaration import_decl) (declaration_rule import_decl first) s.now b.now at store.old c store.new result }
+fn decl_import(state: &mut State<'_>, parsed: &Parsed<'_>, at: usize, first: bool)
+    requires { Has (OfDeclaration import_decl) (declaration_rule import_decl first) parsed.now at state.old.cursor }
+    ensures { LaidAs (OfDeclaration import_decl) (declaration_rule import_decl first) parsed.now at state.old state.new }
 {
-    let d = opening(store, c, s, b, start(b, at), first);
-    let e = word(store, d, Word::Import);
-    let f = import_path(store, e, s, b, at);
-    word(store, f, Word::Semicolon)
+    opening(state, parsed, start(parsed.image, at), first);
+    state.word(Word::Import);
+    import_path(state, parsed, at);
+    state.word(Word::Semicolon);
 }
 
 // The declaration at `at`, which is the file's first or not.
-pub(crate) fn declaration(
-    store: &mut [u32],
-    c: Cursor,
-    s: &[u8],
-    b: &[u8],
-    at: usize,
-    first: bool,
-) -> Cursor
-    requires { Has (OfDeclaration any_declaration) (declaration_rule any_declaration first) s.now b.now at c }
-    ensures { LaidAs (OfDeclaration any_declaration) (declaration_rule any_declaration first) s.now b.now at store.old c store.new result }
+pub(crate) fn declaration(state: &mut State<'_>, parsed: &Parsed<'_>, at: usize, first: bool)
+    requires { Has (OfDeclaration any_declaration) (declaration_rule any_declaration first) parsed.now at state.old.cursor }
+    ensures { LaidAs (OfDeclaration any_declaration) (declaration_rule any_declaration first) parsed.now at state.old state.new }
 {
-    match kind(b, at) {
-        kinds::FILTER_MAP => filter_map(store, c, s, b, at, first),
-        kinds::CONST => constant(store, c, s, b, at, first),
-        kinds::RECORD => decl_record(store, c, s, b, at, first),
-        kinds::ENUM => decl_enum(store, c, s, b, at, first),
-        kinds::FUNCTION => function(store, c, s, b, at, first),
-        kinds::TEST => test(store, c, s, b, at, first),
-        _ => decl_import(store, c, s, b, at, first),
+    match kind(parsed.image, at) {
+        kinds::FILTER_MAP => filter_map(state, parsed, at, first),
+        kinds::CONST => constant(state, parsed, at, first),
+        kinds::RECORD => decl_record(state, parsed, at, first),
+        kinds::ENUM => decl_enum(state, parsed, at, first),
+        kinds::FUNCTION => function(state, parsed, at, first),
+        kinds::TEST => test(state, parsed, at, first),
+        _ => decl_import(state, parsed, at, first),
     }
 }
 
 // The shebang at `at`, without the white space at its end, where there is one.
-pub fn shebang(store: &mut [u32], c: Cursor, s: &[u8], b: &[u8], at: usize) -> Cursor
-    requires { Has MaybeIdentAt shebang_rule s.now b.now at c }
-    ensures { LaidAs MaybeIdentAt shebang_rule s.now b.now at store.old c store.new result }
+pub fn shebang(state: &mut State<'_>, parsed: &Parsed<'_>, at: usize)
+    requires { Has MaybeIdentAt shebang_rule parsed.now at state.old.cursor }
+    ensures { LaidAs MaybeIdentAt shebang_rule parsed.now at state.old state.new }
 {
-    if is_absent(b, at) {
-        return c;
+    let image = parsed.image;
+    if is_absent(image, at) {
+        return;
     }
     let from = at + 15;
-    let width = Columns(num16(b, at + HEAD));
-    let size = Bytes(trim_end(b, from, past(b, at)) - from);
-    let d = str(store, c, from as u32, size, width);
-    empty_line(store, d)
+    let width = Columns(num16(image, at + HEAD));
+    let size = Bytes(trim_end(image, from, past(image, at)) - from);
+    state.push(Leaf::Str {
+        start: from as u32,
+        size,
+        width,
+    });
+    state.push(Leaf::EmptyLine);
 }
 
 // The declarations from `from` up to `to`, of which the first is the file's first or not.
-pub fn declarations(
-    store: &mut [u32],
-    c: Cursor,
-    s: &[u8],
-    b: &[u8],
-    from: usize,
-    to: usize,
-    opens: bool,
-) -> Cursor
-    requires { HasAll DeclarationsAt (declarations_from opens) s.now b.now from to c }
-    ensures { LaidAll DeclarationsAt (declarations_from opens) s.now b.now from to store.old c store.new result }
+pub fn declarations(state: &mut State<'_>, parsed: &Parsed<'_>, from: usize, to: usize, opens: bool)
+    requires { HasAll DeclarationsAt (declarations_from opens) parsed.now from to state.old.cursor }
+    ensures { LaidAll DeclarationsAt (declarations_from opens) parsed.now from to state.old state.new }
 {
+    let image = parsed.image;
     let mut p = from;
-    let mut d = c;
     let mut first = opens;
     // kept: an iterator over records must prove by itself that it ends and that each record lies in the image, which the loop's invariant says already.
     while p < to {
-        d = declaration(store, d, s, b, p, first);
-        p = past(b, p);
+        declaration(state, parsed, p, first);
+        p = past(image, p);
         first = false;
     }
-    d
 }

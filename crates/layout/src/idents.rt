@@ -1,5 +1,5 @@
 // Lists of identifiers: `type_params`, and the fields of a pattern.
-ghost use Rattle.std.specs.Prelude.{◌≡◌, true};
+
 ghost use Rattle.tree.specs.At.{IdentAt, ListAt, PatternAt};
 ghost use Rattle.layout.specs.Layout.{ident, pattern};
 ghost use Rattle.layout.specs.Promises.{Has, LaidAs};
@@ -9,38 +9,40 @@ use crate::forms::{BRACKETS, PARENS};
 use crate::lists::separated;
 use crate::numbers::{HEAD, end, is_absent, kind, second};
 use crate::paths::ident;
-use acts::Cursor;
-use acts::leaves::word;
+use acts::State;
 use acts::words::Word;
+use comments::parsed::Parsed;
 use image::kinds;
 
-pub(crate) fn type_params(store: &mut [u32], c: Cursor, s: &[u8], b: &[u8], at: usize) -> Cursor
-    requires { Has ListAt type_params_rule s.now b.now at c }
-    ensures { LaidAs ListAt type_params_rule s.now b.now at store.old c store.new result }
+pub(crate) fn type_params(state: &mut State<'_>, parsed: &Parsed<'_>, at: usize)
+    requires { Has ListAt type_params_rule parsed.now at state.old.cursor }
+    ensures { LaidAs ListAt type_params_rule parsed.now at state.old state.new }
 {
-    let name = |rows: &mut [u32], d: Cursor, p: usize| -> Cursor
-        requires { Has IdentAt ident s.now b.now p d }
-        ensures { LaidAs IdentAt ident s.entry.now b.entry.now p rows.old d rows.new result }
-    { ident(rows, d, s, b, p) };
-    separated(store, c, s, b, at, end(b, at), BRACKETS, name)
+    let name = |inner: &mut State<'_>, p: usize|
+        requires { Has IdentAt ident parsed.now p inner.old.cursor }
+        ensures { LaidAs IdentAt ident parsed.entry.now p inner.old inner.new }
+    { ident(inner, parsed, p) };
+    separated(state, parsed, at, end(parsed.image, at), BRACKETS, name);
 }
 
 // The pattern of an arm of `r#match`.
-pub(crate) fn pattern(store: &mut [u32], c: Cursor, s: &[u8], b: &[u8], at: usize) -> Cursor
-    requires { Has PatternAt pattern s.now b.now at c }
-    ensures { LaidAs PatternAt pattern s.now b.now at store.old c store.new result }
+pub(crate) fn pattern(state: &mut State<'_>, parsed: &Parsed<'_>, at: usize)
+    requires { Has PatternAt pattern parsed.now at state.old.cursor }
+    ensures { LaidAs PatternAt pattern parsed.now at state.old state.new }
 {
-    if kind(b, at) == kinds::UNDERSCORE {
-        return word(store, c, Word::Underscore);
+    let image = parsed.image;
+    if kind(image, at) == kinds::UNDERSCORE {
+        state.word(Word::Underscore);
+        return;
     }
-    let p = second(b, at);
-    let d = ident(store, c, s, b, at + HEAD);
-    if is_absent(b, p) {
-        return d;
+    let p = second(image, at);
+    ident(state, parsed, at + HEAD);
+    if is_absent(image, p) {
+        return;
     }
-    let name = |rows: &mut [u32], e: Cursor, q: usize| -> Cursor
-        requires { Has IdentAt ident s.now b.now q e }
-        ensures { LaidAs IdentAt ident s.entry.now b.entry.now q rows.old e rows.new result }
-    { ident(rows, e, s, b, q) };
-    separated(store, d, s, b, p, end(b, p), PARENS, name)
+    let name = |inner: &mut State<'_>, q: usize|
+        requires { Has IdentAt ident parsed.now q inner.old.cursor }
+        ensures { LaidAs IdentAt ident parsed.entry.now q inner.old inner.new }
+    { ident(inner, parsed, q) };
+    separated(state, parsed, p, end(image, p), PARENS, name);
 }

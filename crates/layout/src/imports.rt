@@ -4,7 +4,8 @@ ghost use Rattle.image.specs.Bytes.{be32};
 ghost use Rattle.image.specs.Read.{stop_at};
 ghost use Rattle.tree.specs.At.{ImportAt, ImportGroupAt};
 ghost use Rattle.acts.specs.Act.{when, says};
-ghost use Rattle.acts.specs.Laid.{Room, Laid};
+ghost use Rattle.acts.specs.Laid.{Room};
+ghost use Rattle.acts.specs.Does.{Does};
 ghost use Rattle.layout.specs.Layout.{import_first, import_path, import_group};
 ghost use Rattle.layout.specs.Promises.{Has, LaidAs, InImage, Whole};
 ghost use Rattle.layout.specs.Forms.{MaybePathAt};
@@ -13,35 +14,35 @@ use crate::forms::BRACES;
 use crate::lists::separated;
 use crate::numbers::{HEAD, end, is_absent, past, second};
 use crate::paths::path;
-use acts::Cursor;
-use acts::leaves::word;
+use acts::State;
 use acts::words::Word;
+use comments::parsed::Parsed;
 
 // The path of an import, where there is one.
-fn import_first(store: &mut [u32], c: Cursor, s: &[u8], b: &[u8], at: usize) -> Cursor
-    requires { Has MaybePathAt import_first s.now b.now at c }
-    ensures { LaidAs MaybePathAt import_first s.now b.now at store.old c store.new result }
+fn import_first(state: &mut State<'_>, parsed: &Parsed<'_>, at: usize)
+    requires { Has MaybePathAt import_first parsed.now at state.old.cursor }
+    ensures { LaidAs MaybePathAt import_first parsed.now at state.old state.new }
 {
-    if is_absent(b, at) {
-        return c;
+    if is_absent(parsed.image, at) {
+        return;
     }
-    path(store, c, s, b, at, true, false)
+    path(state, parsed, at, true, false);
 }
 
 // The dot between the path at `from` and the group at `at`, where both are there.
-fn import_dot(store: &mut [u32], c: Cursor, b: &[u8], from: usize, at: usize) -> Cursor
-    requires path_in_image { InImage b.now from }
-    requires group_in_image { InImage b.now at }
-    requires room { Room (when (not (eqb (be32 b.now from) 0) && not (eqb (be32 b.now at) 0)) (says ".")) c }
-    ensures { Laid (when (not (eqb (be32 b.now from) 0) && not (eqb (be32 b.now at) 0)) (says ".")) store.old c store.new result }
+fn import_dot(state: &mut State<'_>, image: &[u8], from: usize, at: usize)
+    requires path_in_image { InImage image.now from }
+    requires group_in_image { InImage image.now at }
+    requires room { Room (when (not (eqb (be32 image.now from) 0) && not (eqb (be32 image.now at) 0)) (says ".")) state.old.cursor }
+    ensures { Does (when (not (eqb (be32 image.now from) 0) && not (eqb (be32 image.now at) 0)) (says ".")) state.old state.new }
 {
-    if is_absent(b, from) {
-        return c;
+    if is_absent(image, from) {
+        return;
     }
-    if is_absent(b, at) {
-        return c;
+    if is_absent(image, at) {
+        return;
     }
-    word(store, c, Word::Dot)
+    state.word(Word::Dot);
 }
 
 // Whether the list at `at` has one element.
@@ -55,31 +56,34 @@ fn is_single(b: &[u8], at: usize) -> bool
 }
 
 #[cycle(import)]
-pub(crate) fn import_path(store: &mut [u32], c: Cursor, s: &[u8], b: &[u8], at: usize) -> Cursor
-    requires { Has ImportAt import_path s.now b.now at c }
-    ensures { LaidAs ImportAt import_path s.now b.now at store.old c store.new result }
+pub(crate) fn import_path(state: &mut State<'_>, parsed: &Parsed<'_>, at: usize)
+    requires { Has ImportAt import_path parsed.now at state.old.cursor }
+    ensures { LaidAs ImportAt import_path parsed.now at state.old state.new }
 {
-    let p = second(b, at);
-    let d = import_first(store, c, s, b, at + HEAD);
-    let e = import_dot(store, d, b, at + HEAD, p);
-    import_group(store, e, s, b, p)
+    let image = parsed.image;
+    let p = second(image, at);
+    import_first(state, parsed, at + HEAD);
+    import_dot(state, image, at + HEAD, p);
+    import_group(state, parsed, p);
 }
 
 // The group of an import, where there is one: one item loses its braces.
 #[cycle(import)]
-fn import_group(store: &mut [u32], c: Cursor, s: &[u8], b: &[u8], at: usize) -> Cursor
-    requires { Has ImportGroupAt import_group s.now b.now at c }
-    ensures { LaidAs ImportGroupAt import_group s.now b.now at store.old c store.new result }
+fn import_group(state: &mut State<'_>, parsed: &Parsed<'_>, at: usize)
+    requires { Has ImportGroupAt import_group parsed.now at state.old.cursor }
+    ensures { LaidAs ImportGroupAt import_group parsed.now at state.old state.new }
 {
-    if is_absent(b, at) {
-        return c;
+    let image = parsed.image;
+    if is_absent(image, at) {
+        return;
     }
-    if is_single(b, at) {
-        return import_path(store, c, s, b, at + HEAD);
+    if is_single(image, at) {
+        import_path(state, parsed, at + HEAD);
+        return;
     }
-    let item = |rows: &mut [u32], d: Cursor, p: usize| -> Cursor
-        requires { Has ImportAt import_path s.now b.now p d }
-        ensures { LaidAs ImportAt import_path s.entry.now b.entry.now p rows.old d rows.new result }
-    { import_path(rows, d, s, b, p) };
-    separated(store, c, s, b, at, end(b, at), BRACES, item)
+    let item = |inner: &mut State<'_>, p: usize|
+        requires { Has ImportAt import_path parsed.now p inner.old.cursor }
+        ensures { LaidAs ImportAt import_path parsed.entry.now p inner.old inner.new }
+    { import_path(inner, parsed, p) };
+    separated(state, parsed, at, end(image, at), BRACES, item);
 }

@@ -1,5 +1,7 @@
 // The layout functions: `State` of fmt.rs from `separated` on. Here are those of expressions, blocks and statements. They call each other,
 // and the record's length falls at each call.
+// kept: each function has what it changes, what it reads, and where: the Rust's `self` and its reference to a node. As one value, the last
+// two would be made anew at each call, which only moves the offset.
 #![tactic(auto)]
 
 mod blocks;
@@ -17,7 +19,7 @@ mod pieces;
 mod types;
 mod variants;
 
-ghost use Rattle.std.specs.Prelude.{◌≡◌, true, ◌+◌};
+ghost use Rattle.std.specs.Prelude.{true, ◌+◌};
 ghost use Rattle.image.specs.Kinds.{LIST, RECORD_FIELDS};
 ghost use Rattle.ast.specs.Syntax.{return', match', function_call, access, list, bin_op, if_else, for, f_string, parentheses};
 ghost use Rattle.tree.specs.At.{ExprAt, ExprsAt, EntriesAt, MaybeExprAt, PartsAt, BlockAt, StmtsAt, StmtAt};
@@ -42,513 +44,506 @@ use crate::numbers::{HEAD, end, is_absent, kind, past, second, start, third};
 use crate::operators::{assign_word, return_word};
 use crate::paths::{field_name, ident, path};
 use crate::pieces::gap;
-use acts::Cursor;
-use acts::leaves::{line, line_or_space, word};
-use acts::parts::{close, open_call, open_group, open_indent, open_indent_next, set_second};
+use acts::State;
+use acts::leaves::Leaf;
+use acts::parts::Branch;
 use acts::words::Word;
+use comments::parsed::Parsed;
 use comments::{Kept, pop_trailing_comment};
 use image::kinds;
 
 #[cycle(expr)]
-pub(crate) fn expr(store: &mut [u32], c: Cursor, s: &[u8], b: &[u8], at: usize) -> Cursor
-    requires { Has ExprAt expr_rule s.now b.now at c }
-    ensures { LaidAs ExprAt expr_rule s.now b.now at store.old c store.new result }
+pub(crate) fn expr(state: &mut State<'_>, parsed: &Parsed<'_>, at: usize)
+    requires { Has ExprAt expr_rule parsed.now at state.old.cursor }
+    ensures { LaidAs ExprAt expr_rule parsed.now at state.old state.new }
 {
-    expr_with_precedence(store, c, s, b, at, Precedence::Bottom)
+    expr_with_precedence(state, parsed, at, Precedence::Bottom);
 }
 
 // Each expression ends with `pop_trailing_comment`.
 #[cycle(expr)]
-fn expr_with_precedence(
-    store: &mut [u32],
-    c: Cursor,
-    s: &[u8],
-    b: &[u8],
-    at: usize,
-    outer: Precedence,
-) -> Cursor
-    requires { Has ExprAt (expr_with (rank outer)) s.now b.now at c }
-    ensures { LaidAs ExprAt (expr_with (rank outer)) s.now b.now at store.old c store.new result }
+fn expr_with_precedence(state: &mut State<'_>, parsed: &Parsed<'_>, at: usize, outer: Precedence)
+    requires { Has ExprAt (expr_with (rank outer)) parsed.now at state.old.cursor }
+    ensures { LaidAs ExprAt (expr_with (rank outer)) parsed.now at state.old state.new }
 {
-    let d = form(store, c, s, b, at, outer);
-    pop_trailing_comment(store, d, s, b)
+    form(state, parsed, at, outer);
+    pop_trailing_comment(state, parsed);
 }
 
 // `expr_with_precedence`, its `match`: an expression by its form.
 #[cycle(expr)]
-fn form(store: &mut [u32], c: Cursor, s: &[u8], b: &[u8], at: usize, outer: Precedence) -> Cursor
-    requires { Has ExprAt (form_with (rank outer)) s.now b.now at c }
-    ensures { LaidAs ExprAt (form_with (rank outer)) s.now b.now at store.old c store.new result }
+fn form(state: &mut State<'_>, parsed: &Parsed<'_>, at: usize, outer: Precedence)
+    requires { Has ExprAt (form_with (rank outer)) parsed.now at state.old.cursor }
+    ensures { LaidAs ExprAt (form_with (rank outer)) parsed.now at state.old state.new }
 {
-    match kind(b, at) {
-        kinds::RETURN => ret(store, c, s, b, at),
-        kinds::LITERAL_EXPR => literal(store, c, s, b, at + HEAD),
-        kinds::BLOCK_EXPR => block(store, c, s, b, at + HEAD),
-        kinds::MATCH => match_expr(store, c, s, b, at),
-        kinds::FUNCTION_CALL => call(store, c, s, b, at, outer),
-        kinds::ACCESS => access(store, c, s, b, at, outer),
-        kinds::PATH_EXPR => path(store, c, s, b, at + HEAD, outer < Precedence::Chain, true),
-        kinds::RECORD_EXPR => record(store, c, s, b, at + HEAD),
+    let image = parsed.image;
+    match kind(image, at) {
+        kinds::RETURN => ret(state, parsed, at),
+        kinds::LITERAL_EXPR => literal(state, parsed, at + HEAD),
+        kinds::BLOCK_EXPR => block(state, parsed, at + HEAD),
+        kinds::MATCH => match_expr(state, parsed, at),
+        kinds::FUNCTION_CALL => call(state, parsed, at, outer),
+        kinds::ACCESS => access(state, parsed, at, outer),
+        kinds::PATH_EXPR => path(state, parsed, at + HEAD, outer < Precedence::Chain, true),
+        kinds::RECORD_EXPR => record(state, parsed, at + HEAD),
         kinds::TYPED_RECORD => {
-            let d = path(store, c, s, b, at + HEAD, true, true);
-            let e = word(store, d, Word::Space);
-            record(store, e, s, b, second(b, at))
+            path(state, parsed, at + HEAD, true, true);
+            state.word(Word::Space);
+            record(state, parsed, second(image, at))
         }
-        kinds::LIST_EXPR => list(store, c, s, b, at),
-        kinds::NOT => after(store, c, s, b, at + HEAD, Word::Not, Precedence::Unit),
+        kinds::LIST_EXPR => list(state, parsed, at),
+        kinds::NOT => after(state, parsed, at + HEAD, Word::Not, Precedence::Unit),
         kinds::ASSIGN => {
-            let d = path(store, c, s, b, at + HEAD, true, true);
+            path(state, parsed, at + HEAD, true, true);
             after(
-                store,
-                d,
-                s,
-                b,
-                second(b, at),
+                state,
+                parsed,
+                second(image, at),
                 Word::Assign,
                 Precedence::Bottom,
             )
         }
         kinds::COMPOUND_ASSIGN => {
-            let d = path(store, c, s, b, at + HEAD, true, true);
+            path(state, parsed, at + HEAD, true, true);
             after(
-                store,
-                d,
-                s,
-                b,
-                third(b, at),
-                assign_word(b, at),
+                state,
+                parsed,
+                third(image, at),
+                assign_word(image, at),
                 Precedence::Bottom,
             )
         }
-        kinds::BIN_OP => binop(store, c, s, b, at),
-        kinds::NEGATE => after(store, c, s, b, at + HEAD, Word::Minus, Precedence::Bottom),
-        kinds::IF_ELSE => if_else(store, c, s, b, at),
-        kinds::WHILE => cond(store, c, s, b, at + HEAD, Word::While),
-        kinds::FOR => each(store, c, s, b, at),
+        kinds::BIN_OP => binop(state, parsed, at),
+        kinds::NEGATE => after(state, parsed, at + HEAD, Word::Minus, Precedence::Bottom),
+        kinds::IF_ELSE => if_else(state, parsed, at),
+        kinds::WHILE => cond(state, parsed, at + HEAD, Word::While),
+        kinds::FOR => each(state, parsed, at),
         kinds::QUESTION_MARK => {
-            let d = expr_with_precedence(store, c, s, b, at + HEAD, outer);
-            word(store, d, Word::Question)
+            expr_with_precedence(state, parsed, at + HEAD, outer);
+            state.word(Word::Question)
         }
-        kinds::F_STRING => fstr(store, c, s, b, at),
-        _ => par(store, c, s, b, at),
+        kinds::F_STRING => fstr(state, parsed, at),
+        _ => par(state, parsed, at),
     }
 }
 
 // A word, and then the expression at `at`.
 #[cycle(expr)]
-fn after(
-    store: &mut [u32],
-    c: Cursor,
-    s: &[u8],
-    b: &[u8],
-    at: usize,
-    k: Word,
-    outer: Precedence,
-) -> Cursor
-    requires { Has ExprAt (after_word k (rank outer)) s.now b.now at c }
-    ensures { LaidAs ExprAt (after_word k (rank outer)) s.now b.now at store.old c store.new result }
+fn after(state: &mut State<'_>, parsed: &Parsed<'_>, at: usize, k: Word, outer: Precedence)
+    requires { Has ExprAt (after_word k (rank outer)) parsed.now at state.old.cursor }
+    ensures { LaidAs ExprAt (after_word k (rank outer)) parsed.now at state.old state.new }
 {
-    let d = word(store, c, k);
-    expr_with_precedence(store, d, s, b, at, outer)
+    state.word(k);
+    expr_with_precedence(state, parsed, at, outer);
 }
 
 // The same, where the expression is there: the value of a `return`, the guard of an arm.
 #[cycle(expr)]
-fn maybe(store: &mut [u32], c: Cursor, s: &[u8], b: &[u8], at: usize, k: Word) -> Cursor
-    requires { Has MaybeExprAt (maybe_after k) s.now b.now at c }
-    ensures { LaidAs MaybeExprAt (maybe_after k) s.now b.now at store.old c store.new result }
+fn maybe(state: &mut State<'_>, parsed: &Parsed<'_>, at: usize, k: Word)
+    requires { Has MaybeExprAt (maybe_after k) parsed.now at state.old.cursor }
+    ensures { LaidAs MaybeExprAt (maybe_after k) parsed.now at state.old state.new }
 {
-    if is_absent(b, at) {
-        return c;
+    if is_absent(parsed.image, at) {
+        return;
     }
-    after(store, c, s, b, at, k, Precedence::Bottom)
+    after(state, parsed, at, k, Precedence::Bottom);
 }
 
 // `expr_with_precedence`: the condition of `if`, `while` and `for`, after its word, and the block after it.
 #[cycle(expr)]
-fn cond(store: &mut [u32], c: Cursor, s: &[u8], b: &[u8], at: usize, k: Word) -> Cursor
-    requires { Has ClauseAt (clause_rule k) s.now b.now at c }
-    ensures { LaidAs ClauseAt (clause_rule k) s.now b.now at store.old c store.new result }
+fn cond(state: &mut State<'_>, parsed: &Parsed<'_>, at: usize, k: Word)
+    requires { Has ClauseAt (clause_rule k) parsed.now at state.old.cursor }
+    ensures { LaidAs ClauseAt (clause_rule k) parsed.now at state.old state.new }
 {
-    let d = word(store, c, k);
-    let g = open_group(store, d);
-    let i = open_indent(store, g);
-    let e = expr(store, i, s, b, at);
-    close(store, g.row, e);
-    close(store, d.row, e);
-    let f = word(store, e, Word::Space);
-    block(store, f, s, b, past(b, at))
+    state.word(k);
+    let group = state.open(Branch::Group);
+    let indent = state.open(Branch::Indent);
+    expr(state, parsed, at);
+    state.close(indent);
+    state.close(group);
+    state.word(Word::Space);
+    block(state, parsed, past(parsed.image, at));
 }
 
 // `expr_with_precedence`, the arm of `Return`: `return`, `accept` and `reject`.
 #[cycle(expr)]
-fn ret(store: &mut [u32], c: Cursor, s: &[u8], b: &[u8], at: usize) -> Cursor
-    requires { Has (Of (two return')) (form_rule (two return') 0) s.now b.now at c }
-    ensures { LaidAs (Of (two return')) (form_rule (two return') 0) s.now b.now at store.old c store.new result }
+fn ret(state: &mut State<'_>, parsed: &Parsed<'_>, at: usize)
+    requires { Has (Of (two return')) (form_rule (two return') 0) parsed.now at state.old.cursor }
+    ensures { LaidAs (Of (two return')) (form_rule (two return') 0) parsed.now at state.old state.new }
 {
-    let d = word(store, c, return_word(b, at));
-    maybe(store, d, s, b, at + 14, Word::Space)
+    state.word(return_word(parsed.image, at));
+    maybe(state, parsed, at + 14, Word::Space);
 }
 
 // `r#match`
 #[cycle(expr)]
-fn match_expr(store: &mut [u32], c: Cursor, s: &[u8], b: &[u8], at: usize) -> Cursor
-    requires { Has (Of (three match')) (form_rule (three match') 0) s.now b.now at c }
-    ensures { LaidAs (Of (three match')) (form_rule (three match') 0) s.now b.now at store.old c store.new result }
+fn match_expr(state: &mut State<'_>, parsed: &Parsed<'_>, at: usize)
+    requires { Has (Of (three match')) (form_rule (three match') 0) parsed.now at state.old.cursor }
+    ensures { LaidAs (Of (three match')) (form_rule (three match') 0) parsed.now at state.old state.new }
 {
-    let p = second(b, at);
-    let d = word(store, c, Word::Match);
-    let e = expr(store, d, s, b, at + HEAD);
-    let f = word(store, e, Word::Space);
+    let image = parsed.image;
+    let p = second(image, at);
+    state.word(Word::Match);
+    expr(state, parsed, at + HEAD);
+    state.word(Word::Space);
     let form = ListForm {
         commas: false,
         style: WrapStyle::Wrap,
         ..BRACES
     };
-    let one_arm = |rows: &mut [u32], g: Cursor, q: usize| -> Cursor
-        requires { Has ArmAt arm_rule s.now b.now q g }
-        ensures { LaidAs ArmAt arm_rule s.entry.now b.entry.now q rows.old g rows.new result }
-    { arm(rows, g, s, b, q) };
-    separated(store, f, s, b, p, end(b, p), form, one_arm)
+    let one_arm = |inner: &mut State<'_>, q: usize|
+        requires { Has ArmAt arm_rule parsed.now q inner.old.cursor }
+        ensures { LaidAs ArmAt arm_rule parsed.entry.now q inner.old inner.new }
+    { arm(inner, parsed, q) };
+    separated(state, parsed, p, end(image, p), form, one_arm);
 }
 
 // `expr_with_precedence`, the arm of `List`.
 #[cycle(expr)]
-fn list(store: &mut [u32], c: Cursor, s: &[u8], b: &[u8], at: usize) -> Cursor
-    requires { Has (Of list) (form_rule list 0) s.now b.now at c }
-    ensures { LaidAs (Of list) (form_rule list 0) s.now b.now at store.old c store.new result }
+fn list(state: &mut State<'_>, parsed: &Parsed<'_>, at: usize)
+    requires { Has (Of list) (form_rule list 0) parsed.now at state.old.cursor }
+    ensures { LaidAs (Of list) (form_rule list 0) parsed.now at state.old state.new }
 {
-    let element = |rows: &mut [u32], d: Cursor, p: usize| -> Cursor
-        requires { Has ExprAt grouped_rule s.now b.now p d }
-        ensures { LaidAs ExprAt grouped_rule s.entry.now b.entry.now p rows.old d rows.new result }
-    { grouped(rows, d, s, b, p) };
-    separated(store, c, s, b, at + HEAD, end(b, at), BRACKETS, element)
+    let element = |inner: &mut State<'_>, p: usize|
+        requires { Has ExprAt grouped_rule parsed.now p inner.old.cursor }
+        ensures { LaidAs ExprAt grouped_rule parsed.entry.now p inner.old inner.new }
+    { grouped(inner, parsed, p) };
+    separated(
+        state,
+        parsed,
+        at + HEAD,
+        end(parsed.image, at),
+        BRACKETS,
+        element,
+    );
 }
 
 // The closure of a list: an element, in a group of its own.
 #[cycle(expr)]
-fn grouped(store: &mut [u32], c: Cursor, s: &[u8], b: &[u8], at: usize) -> Cursor
-    requires { Has ExprAt grouped_rule s.now b.now at c }
-    ensures { LaidAs ExprAt grouped_rule s.now b.now at store.old c store.new result }
+fn grouped(state: &mut State<'_>, parsed: &Parsed<'_>, at: usize)
+    requires { Has ExprAt grouped_rule parsed.now at state.old.cursor }
+    ensures { LaidAs ExprAt grouped_rule parsed.now at state.old state.new }
 {
-    let g = open_group(store, c);
-    let d = expr(store, g, s, b, at);
-    close(store, c.row, d);
-    d
+    let group = state.open(Branch::Group);
+    expr(state, parsed, at);
+    state.close(group);
 }
 
 // The closure of `r#match`: an arm.
 #[cycle(expr)]
-fn arm(store: &mut [u32], c: Cursor, s: &[u8], b: &[u8], at: usize) -> Cursor
-    requires { Has ArmAt arm_rule s.now b.now at c }
-    ensures { LaidAs ArmAt arm_rule s.now b.now at store.old c store.new result }
+fn arm(state: &mut State<'_>, parsed: &Parsed<'_>, at: usize)
+    requires { Has ArmAt arm_rule parsed.now at state.old.cursor }
+    ensures { LaidAs ArmAt arm_rule parsed.now at state.old state.new }
 {
-    let p = second(b, at);
-    let q = third(b, at);
-    let d = pattern(store, c, s, b, at + HEAD);
-    let e = maybe(store, d, s, b, p, Word::Guard);
-    let f = word(store, e, Word::FatArrow);
-    let g = expr(store, f, s, b, q);
-    arm_comma(store, g, b, q)
+    let image = parsed.image;
+    let p = second(image, at);
+    let q = third(image, at);
+    pattern(state, parsed, at + HEAD);
+    maybe(state, parsed, p, Word::Guard);
+    state.word(Word::FatArrow);
+    expr(state, parsed, q);
+    arm_comma(state, image, q);
 }
 
 // `expr_with_precedence`, the arm of `FunctionCall`, whose precedence is `Chain`. The numbers of its `Call` row are taken before its parts.
 #[cycle(expr)]
-fn call(store: &mut [u32], c: Cursor, s: &[u8], b: &[u8], at: usize, outer: Precedence) -> Cursor
-    requires { Has (Of (three function_call)) (form_rule (three function_call) (rank outer)) s.now b.now at c }
-    ensures { LaidAs (Of (three function_call)) (form_rule (three function_call) (rank outer)) s.now b.now at store.old c store.new result }
+fn call(state: &mut State<'_>, parsed: &Parsed<'_>, at: usize, outer: Precedence)
+    requires { Has (Of (three function_call)) (form_rule (three function_call) (rank outer)) parsed.now at state.old.cursor }
+    ensures { LaidAs (Of (three function_call)) (form_rule (three function_call) (rank outer)) parsed.now at state.old state.new }
 {
-    let p = second(b, at);
+    let p = second(parsed.image, at);
     if outer < Precedence::Chain {
-        let i = open_call(store, c);
-        let d = expr_with_precedence(store, i, s, b, at + HEAD, Precedence::Chain);
-        let e = function_args(store, d, s, b, p);
-        set_second(store, c.row, d);
-        close(store, c.row, e);
-        return e;
+        let call = state.open(Branch::Call);
+        expr_with_precedence(state, parsed, at + HEAD, Precedence::Chain);
+        let second = state.cursor.row;
+        function_args(state, parsed, p);
+        state.set_second(call, second);
+        state.close(call);
+        return;
     }
-    let d = expr_with_precedence(store, c, s, b, at + HEAD, Precedence::Chain);
-    function_args(store, d, s, b, p)
+    expr_with_precedence(state, parsed, at + HEAD, Precedence::Chain);
+    function_args(state, parsed, p);
 }
 
+// kept: like `params` but for the element; what is left to share is the call of `separated`.
 #[cycle(expr)]
-fn function_args(store: &mut [u32], c: Cursor, s: &[u8], b: &[u8], at: usize) -> Cursor
-    requires { Has (ListWith LIST ExprsAt) args_rule s.now b.now at c }
-    ensures { LaidAs (ListWith LIST ExprsAt) args_rule s.now b.now at store.old c store.new result }
+fn function_args(state: &mut State<'_>, parsed: &Parsed<'_>, at: usize)
+    requires { Has (ListWith LIST ExprsAt) args_rule parsed.now at state.old.cursor }
+    ensures { LaidAs (ListWith LIST ExprsAt) args_rule parsed.now at state.old state.new }
 {
-    let argument = |rows: &mut [u32], d: Cursor, p: usize| -> Cursor
-        requires { Has ExprAt expr_rule s.now b.now p d }
-        ensures { LaidAs ExprAt expr_rule s.entry.now b.entry.now p rows.old d rows.new result }
-    { expr(rows, d, s, b, p) };
-    separated(store, c, s, b, at, end(b, at), PARENS, argument)
+    let argument = |inner: &mut State<'_>, p: usize|
+        requires { Has ExprAt expr_rule parsed.now p inner.old.cursor }
+        ensures { LaidAs ExprAt expr_rule parsed.entry.now p inner.old inner.new }
+    { expr(inner, parsed, p) };
+    separated(state, parsed, at, end(parsed.image, at), PARENS, argument);
 }
 
 // `access`, and the arm of `Access`, whose precedence is `Chain`.
 #[cycle(expr)]
-fn access(store: &mut [u32], c: Cursor, s: &[u8], b: &[u8], at: usize, outer: Precedence) -> Cursor
-    requires { Has (Of (two access)) (form_rule (two access) (rank outer)) s.now b.now at c }
-    ensures { LaidAs (Of (two access)) (form_rule (two access) (rank outer)) s.now b.now at store.old c store.new result }
+fn access(state: &mut State<'_>, parsed: &Parsed<'_>, at: usize, outer: Precedence)
+    requires { Has (Of (two access)) (form_rule (two access) (rank outer)) parsed.now at state.old.cursor }
+    ensures { LaidAs (Of (two access)) (form_rule (two access) (rank outer)) parsed.now at state.old state.new }
 {
-    let p = second(b, at);
+    let p = second(parsed.image, at);
     if outer < Precedence::Chain {
-        let g = open_group(store, c);
-        let i = open_indent_next(store, g);
-        let d = expr_with_precedence(store, i, s, b, at + HEAD, Precedence::Chain);
-        let e = field_name(store, d, s, b, p);
-        close(store, g.row, e);
-        close(store, c.row, e);
-        return e;
+        let group = state.open(Branch::Group);
+        let indent = state.open(Branch::IndentNext);
+        expr_with_precedence(state, parsed, at + HEAD, Precedence::Chain);
+        field_name(state, parsed, p);
+        state.close(indent);
+        state.close(group);
+        return;
     }
-    let d = expr_with_precedence(store, c, s, b, at + HEAD, Precedence::Chain);
-    field_name(store, d, s, b, p)
+    expr_with_precedence(state, parsed, at + HEAD, Precedence::Chain);
+    field_name(state, parsed, p);
 }
 
 #[cycle(expr)]
-fn record(store: &mut [u32], c: Cursor, s: &[u8], b: &[u8], at: usize) -> Cursor
-    requires { Has (ListWith RECORD_FIELDS EntriesAt) entries_rule s.now b.now at c }
-    ensures { LaidAs (ListWith RECORD_FIELDS EntriesAt) entries_rule s.now b.now at store.old c store.new result }
+fn record(state: &mut State<'_>, parsed: &Parsed<'_>, at: usize)
+    requires { Has (ListWith RECORD_FIELDS EntriesAt) entries_rule parsed.now at state.old.cursor }
+    ensures { LaidAs (ListWith RECORD_FIELDS EntriesAt) entries_rule parsed.now at state.old state.new }
 {
     let form = ListForm {
         style: WrapStyle::Spaced,
         ..BRACES
     };
-    let named = |rows: &mut [u32], d: Cursor, p: usize| -> Cursor
-        requires { Has EntryAt entry_rule s.now b.now p d }
-        ensures { LaidAs EntryAt entry_rule s.entry.now b.entry.now p rows.old d rows.new result }
-    { entry(rows, d, s, b, p) };
-    separated(store, c, s, b, at, end(b, at), form, named)
+    let named = |inner: &mut State<'_>, p: usize|
+        requires { Has EntryAt entry_rule parsed.now p inner.old.cursor }
+        ensures { LaidAs EntryAt entry_rule parsed.entry.now p inner.old inner.new }
+    { entry(inner, parsed, p) };
+    separated(state, parsed, at, end(parsed.image, at), form, named);
 }
 
 // The closure of `record`: a name and its value.
+// kept: like `field` but for what comes behind the colon; a closure's two clauses would be longer than either.
 #[cycle(expr)]
-fn entry(store: &mut [u32], c: Cursor, s: &[u8], b: &[u8], at: usize) -> Cursor
-    requires { Has EntryAt entry_rule s.now b.now at c }
-    ensures { LaidAs EntryAt entry_rule s.now b.now at store.old c store.new result }
+fn entry(state: &mut State<'_>, parsed: &Parsed<'_>, at: usize)
+    requires { Has EntryAt entry_rule parsed.now at state.old.cursor }
+    ensures { LaidAs EntryAt entry_rule parsed.now at state.old state.new }
 {
-    let p = second(b, at);
-    let d = ident(store, c, s, b, at + HEAD);
-    let e = word(store, d, Word::Colon);
-    expr(store, e, s, b, p)
+    let p = second(parsed.image, at);
+    ident(state, parsed, at + HEAD);
+    state.word(Word::Colon);
+    expr(state, parsed, p);
 }
 
 // `binop`: the chain of operators at `at`.
 #[cycle(expr)]
-fn binop(store: &mut [u32], c: Cursor, s: &[u8], b: &[u8], at: usize) -> Cursor
-    requires { Has (Of (four bin_op)) (form_rule (four bin_op) 0) s.now b.now at c }
-    ensures { LaidAs (Of (four bin_op)) (form_rule (four bin_op) 0) s.now b.now at store.old c store.new result }
+fn binop(state: &mut State<'_>, parsed: &Parsed<'_>, at: usize)
+    requires { Has (Of (four bin_op)) (form_rule (four bin_op) 0) parsed.now at state.old.cursor }
+    ensures { LaidAs (Of (four bin_op)) (form_rule (four bin_op) 0) parsed.now at state.old state.new }
 {
-    let q = precedence(b, at);
+    let image = parsed.image;
+    let q = precedence(image, at);
     let mut ops = [0usize; 64];
-    let left = leftmost(b, at, q, &mut ops);
-    let g = open_group(store, c);
-    let d = expr_with_precedence(store, g, s, b, left, q);
-    let e = line_or_space(store, d);
-    let i = open_indent(store, e);
-    let f = tail(store, i, s, b, at, left, &ops);
-    close(store, e.row, f);
-    close(store, c.row, f);
-    f
+    let left = leftmost(image, at, q, &mut ops);
+    let group = state.open(Branch::Group);
+    expr_with_precedence(state, parsed, left, q);
+    state.push(Leaf::LineOrSpace);
+    let indent = state.open(Branch::Indent);
+    tail(state, parsed, at, left, &ops);
+    state.close(indent);
+    state.close(group);
 }
 
 // `binop`, its second loop: the operators from the one above `left` up to the one at `at`, each with its right operand.
 #[cycle(expr)]
-fn tail(
-    store: &mut [u32],
-    c: Cursor,
-    s: &[u8],
-    b: &[u8],
-    at: usize,
-    left: usize,
-    ops: &[usize; 64],
-) -> Cursor
-    requires { HasTail s.now b.now at left ops.now c }
-    ensures { LaidTail s.now b.now at left ops.now store.old c store.new result }
+fn tail(state: &mut State<'_>, parsed: &Parsed<'_>, at: usize, left: usize, ops: &[usize; 64])
+    requires { HasTail parsed.now at left ops.now state.old.cursor }
+    ensures { LaidTail parsed.now at left ops.now state.old state.new }
 {
-    let mut d = c;
+    let image = parsed.image;
     let mut first = true;
     for n in (0..(left - at) / HEAD).rev() {
         let p = ops[n];
-        d = operator(store, d, s, b, second(b, p), first);
-        d = expr(store, d, s, b, third(b, p));
+        operator(state, parsed, second(image, p), first);
+        expr(state, parsed, third(image, p));
         first = false;
     }
-    d
 }
 
 // `expr_with_precedence`, the arm of `IfElse`.
 #[cycle(expr)]
-fn if_else(store: &mut [u32], c: Cursor, s: &[u8], b: &[u8], at: usize) -> Cursor
-    requires { Has (Of (three if_else)) (form_rule (three if_else) 0) s.now b.now at c }
-    ensures { LaidAs (Of (three if_else)) (form_rule (three if_else) 0) s.now b.now at store.old c store.new result }
+fn if_else(state: &mut State<'_>, parsed: &Parsed<'_>, at: usize)
+    requires { Has (Of (three if_else)) (form_rule (three if_else) 0) parsed.now at state.old.cursor }
+    ensures { LaidAs (Of (three if_else)) (form_rule (three if_else) 0) parsed.now at state.old state.new }
 {
-    let p = third(b, at);
-    let d = cond(store, c, s, b, at + HEAD, Word::If);
-    if is_absent(b, p) {
-        return d;
+    let image = parsed.image;
+    let p = third(image, at);
+    cond(state, parsed, at + HEAD, Word::If);
+    if is_absent(image, p) {
+        return;
     }
-    let e = word(store, d, Word::Else);
-    block(store, e, s, b, p)
+    state.word(Word::Else);
+    block(state, parsed, p);
 }
 
 // `expr_with_precedence`, the arm of `For`.
 #[cycle(expr)]
-fn each(store: &mut [u32], c: Cursor, s: &[u8], b: &[u8], at: usize) -> Cursor
-    requires { Has (Of (three for)) (form_rule (three for) 0) s.now b.now at c }
-    ensures { LaidAs (Of (three for)) (form_rule (three for) 0) s.now b.now at store.old c store.new result }
+fn each(state: &mut State<'_>, parsed: &Parsed<'_>, at: usize)
+    requires { Has (Of (three for)) (form_rule (three for) 0) parsed.now at state.old.cursor }
+    ensures { LaidAs (Of (three for)) (form_rule (three for) 0) parsed.now at state.old state.new }
 {
-    let p = second(b, at);
-    let d = word(store, c, Word::For);
-    let e = ident(store, d, s, b, at + HEAD);
-    cond(store, e, s, b, p, Word::In)
+    let p = second(parsed.image, at);
+    state.word(Word::For);
+    ident(state, parsed, at + HEAD);
+    cond(state, parsed, p, Word::In);
 }
 
 // `expr_with_precedence`, the arm of `FString`.
 #[cycle(expr)]
-fn fstr(store: &mut [u32], c: Cursor, s: &[u8], b: &[u8], at: usize) -> Cursor
-    requires { Has (Of f_string) (form_rule f_string 0) s.now b.now at c }
-    ensures { LaidAs (Of f_string) (form_rule f_string 0) s.now b.now at store.old c store.new result }
+fn fstr(state: &mut State<'_>, parsed: &Parsed<'_>, at: usize)
+    requires { Has (Of f_string) (form_rule f_string 0) parsed.now at state.old.cursor }
+    ensures { LaidAs (Of f_string) (form_rule f_string 0) parsed.now at state.old state.new }
 {
-    let d = gap(store, c, s, b, start(b, at), &Kept::AROUND_COMMENTS);
-    let e = word(store, d, Word::FQuote);
-    let f = parts(store, e, s, b, at + HEAD + HEAD, second(b, at));
-    word(store, f, Word::Quote)
+    let image = parsed.image;
+    gap(state, parsed, start(image, at), &Kept::AROUND_COMMENTS);
+    state.word(Word::FQuote);
+    parts(state, parsed, at + HEAD + HEAD, second(image, at));
+    state.word(Word::Quote);
 }
 
 // The arm of `FString`, its loop: the parts, from `from` up to `to`.
 #[cycle(expr)]
-fn parts(store: &mut [u32], c: Cursor, s: &[u8], b: &[u8], from: usize, to: usize) -> Cursor
-    requires { HasAll PartsAt parts_rule s.now b.now from to c }
-    ensures { LaidAll PartsAt parts_rule s.now b.now from to store.old c store.new result }
+fn parts(state: &mut State<'_>, parsed: &Parsed<'_>, from: usize, to: usize)
+    requires { HasAll PartsAt parts_rule parsed.now from to state.old.cursor }
+    ensures { LaidAll PartsAt parts_rule parsed.now from to state.old state.new }
 {
+    let image = parsed.image;
     let mut p = from;
-    let mut d = c;
     // kept: an iterator over records must prove by itself that it ends and that each record lies in the image, which the loop's invariant says already.
     while p < to {
-        d = part(store, d, s, b, p);
-        p = past(b, p);
+        part(state, parsed, p);
+        p = past(image, p);
     }
-    d
 }
 
 // The arm of `FString`: a part, text, or an expression in braces.
 #[cycle(expr)]
-fn part(store: &mut [u32], c: Cursor, s: &[u8], b: &[u8], at: usize) -> Cursor
-    requires { Has PartAt part_rule s.now b.now at c }
-    ensures { LaidAs PartAt part_rule s.now b.now at store.old c store.new result }
+fn part(state: &mut State<'_>, parsed: &Parsed<'_>, at: usize)
+    requires { Has PartAt part_rule parsed.now at state.old.cursor }
+    ensures { LaidAs PartAt part_rule parsed.now at state.old state.new }
 {
-    if kind(b, at) == kinds::TEXT_PART {
-        return content(store, c, s, b, at);
+    if kind(parsed.image, at) == kinds::TEXT_PART {
+        content(state, parsed, at);
+        return;
     }
-    let d = word(store, c, Word::BraceOpen);
-    let e = expr(store, d, s, b, at + HEAD);
-    word(store, e, Word::BraceClose)
+    state.word(Word::BraceOpen);
+    expr(state, parsed, at + HEAD);
+    state.word(Word::BraceClose);
 }
 
 // `expr_with_precedence`, the arm of `Parentheses`.
 #[cycle(expr)]
-fn par(store: &mut [u32], c: Cursor, s: &[u8], b: &[u8], at: usize) -> Cursor
-    requires { Has (Of parentheses) (form_rule parentheses 0) s.now b.now at c }
-    ensures { LaidAs (Of parentheses) (form_rule parentheses 0) s.now b.now at store.old c store.new result }
+fn par(state: &mut State<'_>, parsed: &Parsed<'_>, at: usize)
+    requires { Has (Of parentheses) (form_rule parentheses 0) parsed.now at state.old.cursor }
+    ensures { LaidAs (Of parentheses) (form_rule parentheses 0) parsed.now at state.old state.new }
 {
-    let d = gap(store, c, s, b, start(b, at), &Kept::AROUND_COMMENTS);
-    let e = word(store, d, Word::ParenOpen);
-    let f = expr(store, e, s, b, at + HEAD);
-    word(store, f, Word::ParenClose)
+    gap(
+        state,
+        parsed,
+        start(parsed.image, at),
+        &Kept::AROUND_COMMENTS,
+    );
+    state.word(Word::ParenOpen);
+    expr(state, parsed, at + HEAD);
+    state.word(Word::ParenClose);
 }
 
 #[cycle(expr)]
-fn block(store: &mut [u32], c: Cursor, s: &[u8], b: &[u8], at: usize) -> Cursor
-    requires { Has BlockAt block_rule s.now b.now at c }
-    ensures { LaidAs BlockAt block_rule s.now b.now at store.old c store.new result }
+fn block(state: &mut State<'_>, parsed: &Parsed<'_>, at: usize)
+    requires { Has BlockAt block_rule parsed.now at state.old.cursor }
+    ensures { LaidAs BlockAt block_rule parsed.now at state.old state.new }
 {
-    let p = second(b, at);
-    let none = no_stmts(b, at);
-    let empty = is_empty(b, at);
-    let g = open_group(store, c);
-    let d = block_start(store, g, empty);
-    let i = open_indent(store, d);
-    let e = stmts(store, i, s, b, at + HEAD + HEAD, p);
-    let f = last(store, e, s, b, p, none);
+    let image = parsed.image;
+    let p = second(image, at);
+    let none = no_stmts(image, at);
+    let empty = is_empty(image, at);
+    let group = state.open(Branch::Group);
+    block_start(state, empty);
+    let indent = state.open(Branch::Indent);
+    stmts(state, parsed, at + HEAD + HEAD, p);
+    last(state, parsed, p, none);
     let kept = Kept {
         leading: !empty,
         ..Kept::NONE
     };
-    let h = gap(store, f, s, b, end(b, at), &kept);
-    close(store, d.row, h);
-    let k = line(store, h);
-    let w = word(store, k, Word::BraceClose);
-    close(store, c.row, w);
-    w
+    gap(state, parsed, end(image, at), &kept);
+    state.close(indent);
+    state.push(Leaf::Line);
+    state.word(Word::BraceClose);
+    state.close(group);
 }
 
 // `block`, its loop: the statements from `from` up to `to`.
 #[cycle(expr)]
-fn stmts(store: &mut [u32], c: Cursor, s: &[u8], b: &[u8], from: usize, to: usize) -> Cursor
-    requires { HasAll StmtsAt (stmts_from true) s.now b.now from to c }
-    ensures { LaidAll StmtsAt (stmts_from true) s.now b.now from to store.old c store.new result }
+fn stmts(state: &mut State<'_>, parsed: &Parsed<'_>, from: usize, to: usize)
+    requires { HasAll StmtsAt (stmts_from true) parsed.now from to state.old.cursor }
+    ensures { LaidAll StmtsAt (stmts_from true) parsed.now from to state.old state.new }
 {
+    let image = parsed.image;
     let mut p = from;
-    let mut d = c;
     let mut first = true;
     // kept: an iterator over records must prove by itself that it ends and that each record lies in the image, which the loop's invariant says already.
     while p < to {
-        d = before_stmt(store, d, s, b, start(b, p), first);
-        d = stmt(store, d, s, b, p);
-        d = after_stmt(store, d, s, b, end(b, p));
-        p = past(b, p);
+        before_stmt(state, parsed, start(image, p), first);
+        stmt(state, parsed, p);
+        after_stmt(state, parsed, end(image, p));
+        p = past(image, p);
         first = false;
     }
-    d
 }
 
 // `block`: the last expression of a block, where it is there.
 #[cycle(expr)]
-fn last(store: &mut [u32], c: Cursor, s: &[u8], b: &[u8], at: usize, first: bool) -> Cursor
-    requires { Has MaybeExprAt (last_from first) s.now b.now at c }
-    ensures { LaidAs MaybeExprAt (last_from first) s.now b.now at store.old c store.new result }
+fn last(state: &mut State<'_>, parsed: &Parsed<'_>, at: usize, first: bool)
+    requires { Has MaybeExprAt (last_from first) parsed.now at state.old.cursor }
+    ensures { LaidAs MaybeExprAt (last_from first) parsed.now at state.old state.new }
 {
-    if is_absent(b, at) {
-        return c;
+    let image = parsed.image;
+    if is_absent(image, at) {
+        return;
     }
-    let d = before_stmt(store, c, s, b, start(b, at), first);
-    let e = expr(store, d, s, b, at);
-    pop_trailing_comment(store, e, s, b)
+    before_stmt(state, parsed, start(image, at), first);
+    expr(state, parsed, at);
+    pop_trailing_comment(state, parsed);
 }
 
 #[cycle(expr)]
-fn stmt(store: &mut [u32], c: Cursor, s: &[u8], b: &[u8], at: usize) -> Cursor
-    requires { Has StmtAt stmt_rule s.now b.now at c }
-    ensures { LaidAs StmtAt stmt_rule s.now b.now at store.old c store.new result }
+fn stmt(state: &mut State<'_>, parsed: &Parsed<'_>, at: usize)
+    requires { Has StmtAt stmt_rule parsed.now at state.old.cursor }
+    ensures { LaidAs StmtAt stmt_rule parsed.now at state.old state.new }
 {
-    match kind(b, at) {
-        kinds::LET => bind(store, c, s, b, at),
+    let image = parsed.image;
+    match kind(image, at) {
+        kinds::LET => bind(state, parsed, at),
         kinds::IMPORT_STMT => {
-            let d = word(store, c, Word::Import);
-            let e = import_path(store, d, s, b, at + HEAD);
-            word(store, e, Word::Semicolon)
+            state.word(Word::Import);
+            import_path(state, parsed, at + HEAD);
+            state.word(Word::Semicolon)
         }
         _ => {
-            let g = open_group(store, c);
-            let d = expr(store, g, s, b, at + HEAD);
-            let e = semicolon(store, d, b, at + HEAD);
-            close(store, c.row, e);
-            e
+            let group = state.open(Branch::Group);
+            expr(state, parsed, at + HEAD);
+            semicolon(state, image, at + HEAD);
+            state.close(group);
         }
     }
 }
 
 // `stmt`, the arm of `Let`.
 #[cycle(expr)]
-fn bind(store: &mut [u32], c: Cursor, s: &[u8], b: &[u8], at: usize) -> Cursor
-    requires { Has LetAt let_rule s.now b.now at c }
-    ensures { LaidAs LetAt let_rule s.now b.now at store.old c store.new result }
+fn bind(state: &mut State<'_>, parsed: &Parsed<'_>, at: usize)
+    requires { Has LetAt let_rule parsed.now at state.old.cursor }
+    ensures { LaidAs LetAt let_rule parsed.now at state.old state.new }
 {
-    let p = second(b, at);
-    let q = third(b, at);
-    let d = word(store, c, Word::Let);
-    let e = ident(store, d, s, b, at + HEAD);
-    let f = let_type(store, e, s, b, p);
-    let g = word(store, f, Word::Assign);
-    let h = expr(store, g, s, b, q);
-    word(store, h, Word::Semicolon)
+    let image = parsed.image;
+    let p = second(image, at);
+    let q = third(image, at);
+    state.word(Word::Let);
+    ident(state, parsed, at + HEAD);
+    let_type(state, parsed, p);
+    state.word(Word::Assign);
+    expr(state, parsed, q);
+    state.word(Word::Semicolon);
 }

@@ -1,40 +1,47 @@
 // `separated`
-ghost use Rattle.std.specs.Prelude.{◌≡◌, true};
+ghost use Rattle.std.specs.Prelude.{true};
 ghost use Rattle.layout.specs.Elems.{Laying, HasList, LaidList};
 
 use crate::forms::ListForm;
 use crate::numbers::{HEAD, past, start};
-use crate::pieces::{before_elem, begin_list, empty_list, finish_list};
-use acts::Cursor;
+use crate::pieces::{before_elem, close_list, empty_list, end_elems, open_list};
+use acts::State;
+use acts::parts::Branch;
+use comments::parsed::Parsed;
 
 // The list at `at`, whose span ends at `to`; f lays an element.
-pub(crate) fn separated<F: Fn(&mut [u32], Cursor, usize) -> Cursor>(
-    store: &mut [u32],
-    c: Cursor,
-    s: &[u8],
-    b: &[u8],
+pub(crate) fn separated<F: Fn(&mut State<'_>, usize)>(
+    state: &mut State<'_>,
+    parsed: &Parsed<'_>,
     at: usize,
     to: u32,
     form: ListForm,
     f: F,
-) -> Cursor
-    requires { HasList (Laying F.Fn f) form to s.now b.now at c }
-    ensures { LaidList (Laying F.Fn f) form to s.now b.now at store.old c store.new result }
+)
+    requires { HasList (Laying F.Fn f) form to parsed.now at state.old.cursor }
+    ensures { LaidList (Laying F.Fn f) form to parsed.now at state.old state.new }
 {
-    let last = past(b, at);
+    let image = parsed.image;
+    let last = past(image, at);
     if at + HEAD == last {
-        return empty_list(store, c, s, b, to, form);
+        empty_list(state, parsed, to, form);
+        return;
     }
-    let i = begin_list(store, c, form);
+    let id = state.cursor.number;
+    let group = state.open(Branch::Group);
+    open_list(state, form);
+    let indent = state.open(Branch::Indent);
     let mut p = at + HEAD;
-    let mut d = i;
     let mut first = true;
     // kept: an iterator over records must prove by itself that it ends and that each record lies in the image, which the loop's invariant says already.
     while p < last {
-        d = before_elem(store, d, s, b, start(b, p), first, form.commas);
-        d = f(store, d, p);
-        p = past(b, p);
+        before_elem(state, parsed, start(image, p), first, form.commas);
+        f(state, p);
+        p = past(image, p);
         first = false;
     }
-    finish_list(store, d, s, b, c, i, to, form)
+    end_elems(state, parsed, to, id, form.commas);
+    state.close(indent);
+    close_list(state, parsed, form);
+    state.close(group);
 }

@@ -1,37 +1,40 @@
 // Texts of the source, and literals.
-ghost use Rattle.std.specs.Prelude.{◌≡◌};
+
 ghost use Rattle.layout.specs.Promises.{Has, LaidAs};
 ghost use Rattle.layout.specs.Forms.{SpanAt, content_rule, LiteralAt, literal_of};
 
 use crate::numbers::{end, payload, start};
 use crate::pieces::gap;
-use acts::Cursor;
-use acts::leaves::{ascii, word};
+use acts::State;
+use acts::leaves::Leaf;
 use acts::words::Word;
 use comments::Kept;
+use comments::parsed::Parsed;
 use rows::units::Bytes;
 
 // `Node::Ascii` of `span_content`: the source between the ends of the record's span.
-pub(crate) fn content(store: &mut [u32], c: Cursor, s: &[u8], b: &[u8], at: usize) -> Cursor
-    requires { Has SpanAt content_rule s.now b.now at c }
-    ensures { LaidAs SpanAt content_rule s.now b.now at store.old c store.new result }
+pub(crate) fn content(state: &mut State<'_>, parsed: &Parsed<'_>, at: usize)
+    requires { Has SpanAt content_rule parsed.now at state.old.cursor }
+    ensures { LaidAs SpanAt content_rule parsed.now at state.old state.new }
 {
-    let from = start(b, at);
-    let to = end(b, at);
+    let image = parsed.image;
+    let from = start(image, at);
+    let to = end(image, at);
     let size = Bytes((to - from) as usize);
-    ascii(store, c, from, size)
+    state.push(Leaf::Ascii { start: from, size });
 }
 
-pub(crate) fn literal(store: &mut [u32], c: Cursor, s: &[u8], b: &[u8], at: usize) -> Cursor
-    requires { Has LiteralAt literal_of s.now b.now at c }
-    ensures { LaidAs LiteralAt literal_of s.now b.now at store.old c store.new result }
+pub(crate) fn literal(state: &mut State<'_>, parsed: &Parsed<'_>, at: usize)
+    requires { Has LiteralAt literal_of parsed.now at state.old.cursor }
+    ensures { LaidAs LiteralAt literal_of parsed.now at state.old state.new }
 {
-    let position = end(b, at);
-    let d = gap(store, c, s, b, position, &Kept::AROUND_COMMENTS);
-    match payload(b, at) {
-        0 => content(store, d, s, b, at),
-        1 => word(store, d, Word::True),
-        2 => word(store, d, Word::False),
-        _ => word(store, d, Word::Unit),
+    let image = parsed.image;
+    let position = end(image, at);
+    gap(state, parsed, position, &Kept::AROUND_COMMENTS);
+    match payload(image, at) {
+        0 => content(state, parsed, at),
+        1 => state.word(Word::True),
+        2 => state.word(Word::False),
+        _ => state.word(Word::Unit),
     }
 }

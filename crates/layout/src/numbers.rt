@@ -1,4 +1,5 @@
 // The numbers of a record in the image, and where its children start.
+// kept: each reads one number, and has one fact to ask for it; as a struct with the fact in it, a record would be made first for each number.
 ghost use Rattle.std.specs.Prelude.{◌≡◌, ◌+◌, ◌<◌, ◌≤◌, length, get_or, eqb};
 ghost use Rattle.image.specs.Bytes.{be32};
 ghost use Rattle.image.specs.Read.{stop_at, kind_at};

@@ -1,114 +1,106 @@
 // Identifiers and paths.
-ghost use Rattle.std.specs.Prelude.{◌≡◌};
+
 ghost use Rattle.tree.specs.At.{IdentAt, IdentsAt, PathAt};
 ghost use Rattle.rows.specs.Node.{line};
 ghost use Rattle.acts.specs.Act.{when, push};
-ghost use Rattle.acts.specs.Laid.{Room, Laid};
+ghost use Rattle.acts.specs.Laid.{Room};
+ghost use Rattle.acts.specs.Does.{Does};
 ghost use Rattle.layout.specs.Layout.{ident, path_next, path_more, path_rule};
 ghost use Rattle.layout.specs.Promises.{Has, LaidAs, HasAll, LaidAll};
 ghost use Rattle.layout.specs.Forms.{field_name};
 
 use crate::numbers::{HEAD, end, past, second};
 use crate::pieces::gap;
-use acts::Cursor;
-use acts::leaves::{line, str, word};
-use acts::parts::{close, open_group, open_indent};
+use acts::State;
+use acts::leaves::Leaf;
+use acts::parts::Branch;
 use acts::words::Word;
+use comments::parsed::Parsed;
 use comments::{Kept, pop_trailing_comment};
 use image::bytes::num16;
 use rows::units::{Bytes, Columns};
 
 // `Node::ident`: the text at `at`, with its width.
-pub(crate) fn ident(store: &mut [u32], c: Cursor, s: &[u8], b: &[u8], at: usize) -> Cursor
-    requires { Has IdentAt ident s.now b.now at c }
-    ensures { LaidAs IdentAt ident s.now b.now at store.old c store.new result }
+pub(crate) fn ident(state: &mut State<'_>, parsed: &Parsed<'_>, at: usize)
+    requires { Has IdentAt ident parsed.now at state.old.cursor }
+    ensures { LaidAs IdentAt ident parsed.now at state.old state.new }
 {
+    let image = parsed.image;
     let from = at + 15;
-    let width = Columns(num16(b, at + HEAD));
-    let size = Bytes(past(b, at) - from);
-    str(store, c, from as u32, size, width)
+    let width = Columns(num16(image, at + HEAD));
+    let size = Bytes(past(image, at) - from);
+    state.push(Leaf::Str {
+        start: from as u32,
+        size,
+        width,
+    });
 }
 
 // A line, where line breaks are allowed.
-fn line_if(store: &mut [u32], c: Cursor, breaks: bool) -> Cursor
-    requires { Room (when breaks (push line)) c }
-    ensures { Laid (when breaks (push line)) store.old c store.new result }
+fn line_if(state: &mut State<'_>, breaks: bool)
+    requires { Room (when breaks (push line)) state.old.cursor }
+    ensures { Does (when breaks (push line)) state.old state.new }
 {
     if breaks {
-        return line(store, c);
+        state.push(Leaf::Line);
+        return;
     }
-    c
 }
 
 // An identifier of a path, after the first.
-fn path_next(store: &mut [u32], c: Cursor, s: &[u8], b: &[u8], at: usize, breaks: bool) -> Cursor
-    requires { Has IdentAt (λ g. path_next g breaks) s.now b.now at c }
-    ensures { LaidAs IdentAt (λ g. path_next g breaks) s.now b.now at store.old c store.new result }
+fn path_next(state: &mut State<'_>, parsed: &Parsed<'_>, at: usize, breaks: bool)
+    requires { Has IdentAt (λ g. path_next g breaks) parsed.now at state.old.cursor }
+    ensures { LaidAs IdentAt (λ g. path_next g breaks) parsed.now at state.old state.new }
 {
-    let position = end(b, at);
-    let d = line_if(store, c, breaks);
-    let e = gap(store, d, s, b, position, &Kept::NONE);
-    let f = word(store, e, Word::Dot);
-    ident(store, f, s, b, at)
+    let position = end(parsed.image, at);
+    line_if(state, breaks);
+    gap(state, parsed, position, &Kept::NONE);
+    state.word(Word::Dot);
+    ident(state, parsed, at);
 }
 
 // The identifiers of a path after the first.
-fn path_more(
-    store: &mut [u32],
-    c: Cursor,
-    s: &[u8],
-    b: &[u8],
-    from: usize,
-    to: usize,
-    breaks: bool,
-) -> Cursor
-    requires { HasAll IdentsAt (λ g. path_more g breaks) s.now b.now from to c }
-    ensures { LaidAll IdentsAt (λ g. path_more g breaks) s.now b.now from to store.old c store.new result }
+fn path_more(state: &mut State<'_>, parsed: &Parsed<'_>, from: usize, to: usize, breaks: bool)
+    requires { HasAll IdentsAt (λ g. path_more g breaks) parsed.now from to state.old.cursor }
+    ensures { LaidAll IdentsAt (λ g. path_more g breaks) parsed.now from to state.old state.new }
 {
+    let image = parsed.image;
     let mut p = from;
-    let mut d = c;
     // kept: an iterator over records must prove by itself that it ends and that each record lies in the image, which the loop's invariant says already.
     while p < to {
-        d = path_next(store, d, s, b, p, breaks);
-        p = past(b, p);
+        path_next(state, parsed, p, breaks);
+        p = past(image, p);
     }
-    d
 }
 
-pub(crate) fn path(
-    store: &mut [u32],
-    c: Cursor,
-    s: &[u8],
-    b: &[u8],
-    at: usize,
-    group: bool,
-    breaks: bool,
-) -> Cursor
-    requires { Has PathAt (λ g p. path_rule g p group breaks) s.now b.now at c }
-    ensures { LaidAs PathAt (λ g p. path_rule g p group breaks) s.now b.now at store.old c store.new result }
+pub(crate) fn path(state: &mut State<'_>, parsed: &Parsed<'_>, at: usize, group: bool, breaks: bool)
+    requires { Has PathAt (λ g p. path_rule g p group breaks) parsed.now at state.old.cursor }
+    ensures { LaidAs PathAt (λ g p. path_rule g p group breaks) parsed.now at state.old state.new }
 {
-    let from = second(b, at);
-    let to = past(b, at);
+    let image = parsed.image;
+    let from = second(image, at);
+    let to = past(image, at);
     if group {
-        let g = open_group(store, c);
-        let d = ident(store, g, s, b, at + HEAD);
-        let i = open_indent(store, d);
-        let e = path_more(store, i, s, b, from, to, breaks);
-        close(store, d.row, e);
-        close(store, c.row, e);
-        return pop_trailing_comment(store, e, s, b);
+        let group = state.open(Branch::Group);
+        ident(state, parsed, at + HEAD);
+        let indent = state.open(Branch::Indent);
+        path_more(state, parsed, from, to, breaks);
+        state.close(indent);
+        state.close(group);
+        pop_trailing_comment(state, parsed);
+        return;
     }
-    let d = ident(store, c, s, b, at + HEAD);
-    let e = path_more(store, d, s, b, from, to, breaks);
-    pop_trailing_comment(store, e, s, b)
+    ident(state, parsed, at + HEAD);
+    path_more(state, parsed, from, to, breaks);
+    pop_trailing_comment(state, parsed);
 }
 
 // The field of an access, after its dot.
-pub(crate) fn field_name(store: &mut [u32], c: Cursor, s: &[u8], b: &[u8], at: usize) -> Cursor
-    requires { Has IdentAt field_name s.now b.now at c }
-    ensures { LaidAs IdentAt field_name s.now b.now at store.old c store.new result }
+pub(crate) fn field_name(state: &mut State<'_>, parsed: &Parsed<'_>, at: usize)
+    requires { Has IdentAt field_name parsed.now at state.old.cursor }
+    ensures { LaidAs IdentAt field_name parsed.now at state.old state.new }
 {
-    let d = line(store, c);
-    let e = word(store, d, Word::Dot);
-    ident(store, e, s, b, at)
+    state.push(Leaf::Line);
+    state.word(Word::Dot);
+    ident(state, parsed, at);
 }

@@ -1,184 +1,140 @@
 // Pieces of the rules that lay no part of the syntax tree below them.
-ghost use Rattle.std.specs.Prelude.{◌≡◌};
+ghost use Rattle.std.specs.Prelude.{not, ◌&&◌};
 ghost use Rattle.acts.specs.Spelling.{spelling};
 ghost use Rattle.rows.specs.Node.{wrap_parent};
 ghost use Rattle.acts.specs.Act.{◌⨟◌, says, when, push};
-ghost use Rattle.acts.specs.Laid.{Room, Laid};
-ghost use Rattle.comments.specs.Comments.{pop_trailing_comment};
+ghost use Rattle.acts.specs.Laid.{Room};
+ghost use Rattle.acts.specs.Does.{Does, Small, node_of};
+ghost use Rattle.comments.specs.Comments.{whitespace, pop_trailing_comment};
 ghost use Rattle.tree.specs.CommentList.{span};
-ghost use Rattle.comments.specs.Listed.{given};
+ghost use Rattle.comments.specs.Parsed.{given_by};
 ghost use Rattle.layout.specs.Layout.{gap, edge, is_wrap, before_elem, ends};
-ghost use Rattle.layout.specs.Promises.{Readable};
-ghost use Rattle.layout.specs.Elems.{mark, starts, Begins, Begun, HasElems, LaidElems, HasEmpty, LaidEmpty};
+ghost use Rattle.layout.specs.Elems.{mark, starts, HasEmpty, LaidEmpty};
 
 use crate::forms::{ListForm, WrapStyle};
-use acts::Cursor;
-use acts::leaves::{line, line_or_space, word, wrap_parent};
-use acts::parts::{close, if_wrap, open_group, open_indent};
+use acts::State;
+use acts::leaves::Leaf;
+use acts::parts::Branch;
 use acts::words::Word;
-use comments::{Kept, pop_trailing_comment, pop_whitespace};
+use comments::parsed::Parsed;
+use comments::{Gap, Kept, is_whitespace, pop_trailing_comment, pop_whitespace};
 
 // `pop_whitespace` where what it returns isn't looked at.
-pub(crate) fn gap(
-    store: &mut [u32],
-    c: Cursor,
-    s: &[u8],
-    b: &[u8],
-    position: u32,
-    kept: &Kept,
-) -> Cursor
-    requires readable { Readable s.now b.now }
-    requires room { Room (gap (given s.now b.now) position kept.now.leading kept.now.trailing kept.now.only) c }
-    ensures { Laid (gap (given s.now b.now) position kept.now.leading kept.now.trailing kept.now.only) store.old c store.new result }
+pub(crate) fn gap(state: &mut State<'_>, parsed: &Parsed<'_>, position: u32, kept: &Kept)
+    requires { Room (gap (given_by parsed.now) position kept.now.leading kept.now.trailing kept.now.only) state.old.cursor }
+    ensures { Does (gap (given_by parsed.now) position kept.now.leading kept.now.trailing kept.now.only) state.old state.new }
 {
-    pop_whitespace(store, c, s, b, position, kept).cursor
+    pop_whitespace(state, parsed, position, kept);
+}
+
+// A leaf between two parts, except before the first, and after white space that is kept.
+pub(crate) fn between(state: &mut State<'_>, leaf: Leaf, first: bool, gap: Gap)
+    requires room { Room (when (not first && not (whitespace gap)) (push (node_of leaf))) state.old.cursor }
+    requires small { Small leaf }
+    ensures { Does (when (not first && not (whitespace gap)) (push (node_of leaf))) state.old state.new }
+{
+    if first || is_whitespace(gap) {
+        return;
+    }
+    state.push(leaf);
 }
 
 // The line or the space inside the brackets of `separated`.
-pub(crate) fn edge(store: &mut [u32], c: Cursor, style: WrapStyle) -> Cursor
-    requires { Room (edge style) c }
-    ensures { Laid (edge style) store.old c store.new result }
+pub(crate) fn edge(state: &mut State<'_>, style: WrapStyle)
+    requires { Room (edge style) state.old.cursor }
+    ensures { Does (edge style) state.old state.new }
 {
     match style {
-        WrapStyle::Spaced => line_or_space(store, c),
-        WrapStyle::Tight | WrapStyle::Wrap => line(store, c),
+        WrapStyle::Spaced => state.push(Leaf::LineOrSpace),
+        WrapStyle::Tight | WrapStyle::Wrap => state.push(Leaf::Line),
     }
 }
 
 // `WrapParent`, where the list always wraps.
-fn wrap_always(store: &mut [u32], c: Cursor, style: WrapStyle) -> Cursor
-    requires { Room (when (is_wrap style) (push wrap_parent)) c }
-    ensures { Laid (when (is_wrap style) (push wrap_parent)) store.old c store.new result }
+fn wrap_always(state: &mut State<'_>, style: WrapStyle)
+    requires { Room (when (is_wrap style) (push wrap_parent)) state.old.cursor }
+    ensures { Does (when (is_wrap style) (push wrap_parent)) state.old state.new }
 {
     match style {
-        WrapStyle::Wrap => wrap_parent(store, c),
-        WrapStyle::Tight => c,
-        WrapStyle::Spaced => c,
+        WrapStyle::Wrap => state.push(Leaf::WrapParent),
+        WrapStyle::Tight => {}
+        WrapStyle::Spaced => {}
     }
 }
 
 // What comes before the elements, inside the list's group.
-fn open_list(store: &mut [u32], c: Cursor, form: ListForm) -> Cursor
-    requires { Room (starts form) c }
-    ensures { Laid (starts form) store.old c store.new result }
+pub(crate) fn open_list(state: &mut State<'_>, form: ListForm)
+    requires { Room (starts form) state.old.cursor }
+    ensures { Does (starts form) state.old state.new }
 {
     let style = form.style;
-    let d = wrap_always(store, c, style);
-    let e = word(store, d, form.left);
-    edge(store, e, style)
-}
-
-// `separated` up to its elements: its group and its indent stay open.
-pub(crate) fn begin_list(store: &mut [u32], c: Cursor, form: ListForm) -> Cursor
-    requires { Begins form c }
-    ensures { Begun form store.old c store.new result }
-{
-    let g = open_group(store, c);
-    let d = open_list(store, g, form);
-    open_indent(store, d)
+    wrap_always(state, style);
+    state.word(form.left);
+    edge(state, style);
 }
 
 // What comes before an element.
 pub(crate) fn before_elem(
-    store: &mut [u32],
-    c: Cursor,
-    s: &[u8],
-    b: &[u8],
+    state: &mut State<'_>,
+    parsed: &Parsed<'_>,
     position: u32,
     first: bool,
     commas: bool,
-) -> Cursor
-    requires readable { Readable s.now b.now }
-    requires room { Room (before_elem (given s.now b.now) (mark commas) first position) c }
-    ensures { Laid (before_elem (given s.now b.now) (mark commas) first position) store.old c store.new result }
+)
+    requires { Room (before_elem (given_by parsed.now) (mark commas) first position) state.old.cursor }
+    ensures { Does (before_elem (given_by parsed.now) (mark commas) first position) state.old state.new }
 {
     if first {
-        return gap(store, c, s, b, position, &Kept::AROUND_COMMENTS);
+        gap(state, parsed, position, &Kept::AROUND_COMMENTS);
+        return;
     }
     if commas {
-        let d = word(store, c, Word::Comma);
-        let e = gap(store, d, s, b, position, &Kept::AROUND_COMMENTS);
-        return line_or_space(store, e);
+        state.word(Word::Comma);
+        gap(state, parsed, position, &Kept::AROUND_COMMENTS);
+        state.push(Leaf::LineOrSpace);
+        return;
     }
-    let e = gap(store, c, s, b, position, &Kept::AROUND_COMMENTS);
-    line_or_space(store, e)
+    gap(state, parsed, position, &Kept::AROUND_COMMENTS);
+    state.push(Leaf::LineOrSpace);
 }
 
 // What comes after the elements of a list whose group has the number id.
-fn end_elems(
-    store: &mut [u32],
-    c: Cursor,
-    s: &[u8],
-    b: &[u8],
-    end: u32,
-    id: u32,
-    commas: bool,
-) -> Cursor
-    requires readable { Readable s.now b.now }
-    requires room { Room (ends (given s.now b.now) (mark commas) id (span 0 end)) c }
-    ensures { Laid (ends (given s.now b.now) (mark commas) id (span 0 end)) store.old c store.new result }
+pub(crate) fn end_elems(state: &mut State<'_>, parsed: &Parsed<'_>, end: u32, id: u32, commas: bool)
+    requires { Room (ends (given_by parsed.now) (mark commas) id (span 0 end)) state.old.cursor }
+    ensures { Does (ends (given_by parsed.now) (mark commas) id (span 0 end)) state.old state.new }
 {
     if commas {
-        let d = if_wrap(store, c, id, Word::Comma);
-        return gap(store, d, s, b, end, &Kept::BEFORE_COMMENTS);
+        state.if_wrap(id, Word::Comma);
+        gap(state, parsed, end, &Kept::BEFORE_COMMENTS);
+        return;
     }
-    gap(store, c, s, b, end, &Kept::BEFORE_COMMENTS)
+    gap(state, parsed, end, &Kept::BEFORE_COMMENTS);
 }
 
 // The end of a list: its line or space, its word and the comment after it.
-fn close_list(store: &mut [u32], c: Cursor, s: &[u8], b: &[u8], form: ListForm) -> Cursor
-    requires readable { Readable s.now b.now }
-    requires room { Room (edge form.style ⨟ says (spelling form.right) ⨟ pop_trailing_comment (given s.now b.now)) c }
-    ensures { Laid (edge form.style ⨟ says (spelling form.right) ⨟ pop_trailing_comment (given s.now b.now)) store.old c store.new result }
+pub(crate) fn close_list(state: &mut State<'_>, parsed: &Parsed<'_>, form: ListForm)
+    requires { Room (edge form.style ⨟ says (spelling form.right) ⨟ pop_trailing_comment (given_by parsed.now)) state.old.cursor }
+    ensures { Does (edge form.style ⨟ says (spelling form.right) ⨟ pop_trailing_comment (given_by parsed.now)) state.old state.new }
 {
     let style = form.style;
-    let d = edge(store, c, style);
-    let e = word(store, d, form.right);
-    pop_trailing_comment(store, e, s, b)
-}
-
-// `separated` after its elements: the list was begun at c, its indent at i, and its elements end at d.
-pub(crate) fn finish_list(
-    store: &mut [u32],
-    d: Cursor,
-    s: &[u8],
-    b: &[u8],
-    c: Cursor,
-    i: Cursor,
-    end: u32,
-    form: ListForm,
-) -> Cursor
-    requires { HasElems form end s.now b.now c i store.old d }
-    ensures { LaidElems form end s.now b.now c i store.old d store.new result }
-{
-    let e = end_elems(store, d, s, b, end, c.number, form.commas);
-    close(store, i.row - 1, e);
-    let f = close_list(store, e, s, b, form);
-    close(store, c.row, f);
-    f
+    edge(state, style);
+    state.word(form.right);
+    pop_trailing_comment(state, parsed);
 }
 
 // `separated` without elements.
-pub(crate) fn empty_list(
-    store: &mut [u32],
-    c: Cursor,
-    s: &[u8],
-    b: &[u8],
-    end: u32,
-    form: ListForm,
-) -> Cursor
-    requires { HasEmpty form end s.now b.now c }
-    ensures { LaidEmpty form end s.now b.now store.old c store.new result }
+pub(crate) fn empty_list(state: &mut State<'_>, parsed: &Parsed<'_>, end: u32, form: ListForm)
+    requires { HasEmpty form end parsed.now state.old.cursor }
+    ensures { LaidEmpty form end parsed.now state.old state.new }
 {
-    let g = open_group(store, c);
-    let d = word(store, g, form.left);
-    let e = line(store, d);
-    let i = open_indent(store, e);
-    let f = gap(store, i, s, b, end, &Kept::NONE);
-    close(store, e.row, f);
-    let h = line(store, f);
-    let w = word(store, h, form.right);
-    let t = pop_trailing_comment(store, w, s, b);
-    close(store, c.row, t);
-    t
+    let group = state.open(Branch::Group);
+    state.word(form.left);
+    state.push(Leaf::Line);
+    let indent = state.open(Branch::Indent);
+    gap(state, parsed, end, &Kept::NONE);
+    state.close(indent);
+    state.push(Leaf::Line);
+    state.word(form.right);
+    pop_trailing_comment(state, parsed);
+    state.close(group);
 }

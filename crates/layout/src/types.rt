@@ -1,5 +1,5 @@
 // Types, and lists of types and of fields. They call each other, and the record's length falls at each call.
-ghost use Rattle.std.specs.Prelude.{◌≡◌, true};
+ghost use Rattle.std.specs.Prelude.{true};
 ghost use Rattle.image.specs.Kinds.{LIST};
 ghost use Rattle.ast.specs.Syntax.{type_path};
 ghost use Rattle.tree.specs.At.{TypeAt, FieldsAt};
@@ -12,85 +12,79 @@ use crate::forms::{BRACES, BRACKETS, ListForm, PARENS, WrapStyle};
 use crate::lists::separated;
 use crate::numbers::{HEAD, end, is_absent, kind, second};
 use crate::paths::{ident, path};
-use acts::Cursor;
-use acts::leaves::word;
+use acts::State;
 use acts::words::Word;
+use comments::parsed::Parsed;
 use image::kinds;
 
 #[cycle(type_expr)]
-pub(crate) fn type_expr(store: &mut [u32], c: Cursor, s: &[u8], b: &[u8], at: usize) -> Cursor
-    requires { Has TypeAt type_expr s.now b.now at c }
-    ensures { LaidAs TypeAt type_expr s.now b.now at store.old c store.new result }
+pub(crate) fn type_expr(state: &mut State<'_>, parsed: &Parsed<'_>, at: usize)
+    requires { Has TypeAt type_expr parsed.now at state.old.cursor }
+    ensures { LaidAs TypeAt type_expr parsed.now at state.old state.new }
 {
-    match kind(b, at) {
+    match kind(parsed.image, at) {
         kinds::OPTION => {
-            let d = type_expr(store, c, s, b, at + HEAD);
-            word(store, d, Word::Question)
+            type_expr(state, parsed, at + HEAD);
+            state.word(Word::Question)
         }
-        kinds::TYPE_PATH => type_path(store, c, s, b, at),
-        kinds::NEVER => word(store, c, Word::Not),
-        kinds::UNIT => word(store, c, Word::Unit),
-        _ => record_type(store, c, s, b, at + HEAD, WrapStyle::Tight),
+        kinds::TYPE_PATH => type_path(state, parsed, at),
+        kinds::NEVER => state.word(Word::Not),
+        kinds::UNIT => state.word(Word::Unit),
+        _ => record_type(state, parsed, at + HEAD, WrapStyle::Tight),
     }
 }
 
 // `type_expr`, the arm of `Path`: the path, and its arguments where it has some.
 #[cycle(type_expr)]
-fn type_path(store: &mut [u32], c: Cursor, s: &[u8], b: &[u8], at: usize) -> Cursor
-    requires { Has (OfType (two type_path)) (type_rule (two type_path)) s.now b.now at c }
-    ensures { LaidAs (OfType (two type_path)) (type_rule (two type_path)) s.now b.now at store.old c store.new result }
+fn type_path(state: &mut State<'_>, parsed: &Parsed<'_>, at: usize)
+    requires { Has (OfType (two type_path)) (type_rule (two type_path)) parsed.now at state.old.cursor }
+    ensures { LaidAs (OfType (two type_path)) (type_rule (two type_path)) parsed.now at state.old state.new }
 {
-    let p = second(b, at);
-    let d = path(store, c, s, b, at + HEAD, true, true);
-    if is_absent(b, p) {
-        return d;
+    let image = parsed.image;
+    let p = second(image, at);
+    path(state, parsed, at + HEAD, true, true);
+    if is_absent(image, p) {
+        return;
     }
-    let argument = |rows: &mut [u32], e: Cursor, q: usize| -> Cursor
-        requires { Has TypeAt type_expr s.now b.now q e }
-        ensures { LaidAs TypeAt type_expr s.entry.now b.entry.now q rows.old e rows.new result }
-    { type_expr(rows, e, s, b, q) };
-    separated(store, d, s, b, p, end(b, p), BRACKETS, argument)
+    let argument = |inner: &mut State<'_>, q: usize|
+        requires { Has TypeAt type_expr parsed.now q inner.old.cursor }
+        ensures { LaidAs TypeAt type_expr parsed.entry.now q inner.old inner.new }
+    { type_expr(inner, parsed, q) };
+    separated(state, parsed, p, end(image, p), BRACKETS, argument);
 }
 
 #[cycle(type_expr)]
-pub(crate) fn record_type(
-    store: &mut [u32],
-    c: Cursor,
-    s: &[u8],
-    b: &[u8],
-    at: usize,
-    style: WrapStyle,
-) -> Cursor
-    requires { Has (ListWith LIST FieldsAt) (record_type_with style) s.now b.now at c }
-    ensures { LaidAs (ListWith LIST FieldsAt) (record_type_with style) s.now b.now at store.old c store.new result }
+pub(crate) fn record_type(state: &mut State<'_>, parsed: &Parsed<'_>, at: usize, style: WrapStyle)
+    requires { Has (ListWith LIST FieldsAt) (record_type_with style) parsed.now at state.old.cursor }
+    ensures { LaidAs (ListWith LIST FieldsAt) (record_type_with style) parsed.now at state.old state.new }
 {
     let form = ListForm { style, ..BRACES };
-    let named = |rows: &mut [u32], d: Cursor, p: usize| -> Cursor
-        requires { Has FieldAt field_rule s.now b.now p d }
-        ensures { LaidAs FieldAt field_rule s.entry.now b.entry.now p rows.old d rows.new result }
-    { field(rows, d, s, b, p) };
-    separated(store, c, s, b, at, end(b, at), form, named)
+    let named = |inner: &mut State<'_>, p: usize|
+        requires { Has FieldAt field_rule parsed.now p inner.old.cursor }
+        ensures { LaidAs FieldAt field_rule parsed.entry.now p inner.old inner.new }
+    { field(inner, parsed, p) };
+    separated(state, parsed, at, end(parsed.image, at), form, named);
 }
 
 // The closure of `params` and `record_type`: a name and its type.
 #[cycle(type_expr)]
-fn field(store: &mut [u32], c: Cursor, s: &[u8], b: &[u8], at: usize) -> Cursor
-    requires { Has FieldAt field_rule s.now b.now at c }
-    ensures { LaidAs FieldAt field_rule s.now b.now at store.old c store.new result }
+fn field(state: &mut State<'_>, parsed: &Parsed<'_>, at: usize)
+    requires { Has FieldAt field_rule parsed.now at state.old.cursor }
+    ensures { LaidAs FieldAt field_rule parsed.now at state.old state.new }
 {
-    let p = second(b, at);
-    let d = ident(store, c, s, b, at + HEAD);
-    let e = word(store, d, Word::Colon);
-    type_expr(store, e, s, b, p)
+    let p = second(parsed.image, at);
+    ident(state, parsed, at + HEAD);
+    state.word(Word::Colon);
+    type_expr(state, parsed, p);
 }
 
-pub(crate) fn params(store: &mut [u32], c: Cursor, s: &[u8], b: &[u8], at: usize) -> Cursor
-    requires { Has (ListWith LIST FieldsAt) params_rule s.now b.now at c }
-    ensures { LaidAs (ListWith LIST FieldsAt) params_rule s.now b.now at store.old c store.new result }
+pub(crate) fn params(state: &mut State<'_>, parsed: &Parsed<'_>, at: usize)
+    requires { Has (ListWith LIST FieldsAt) params_rule parsed.now at state.old.cursor }
+    ensures { LaidAs (ListWith LIST FieldsAt) params_rule parsed.now at state.old state.new }
 {
-    let named = |rows: &mut [u32], d: Cursor, p: usize| -> Cursor
-        requires { Has FieldAt field_rule s.now b.now p d }
-        ensures { LaidAs FieldAt field_rule s.entry.now b.entry.now p rows.old d rows.new result }
-    { field(rows, d, s, b, p) };
-    separated(store, c, s, b, at, end(b, at), PARENS, named)
+    let named = |inner: &mut State<'_>, p: usize|
+        requires { Has FieldAt field_rule parsed.now p inner.old.cursor }
+        ensures { LaidAs FieldAt field_rule parsed.entry.now p inner.old inner.new }
+    { field(inner, parsed, p) };
+    separated(state, parsed, at, end(parsed.image, at), PARENS, named);
 }

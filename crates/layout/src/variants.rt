@@ -1,5 +1,5 @@
 // The variants of an enum.
-ghost use Rattle.std.specs.Prelude.{◌≡◌, true};
+
 ghost use Rattle.tree.specs.At.{TypeAt};
 ghost use Rattle.layout.specs.Layout.{type_expr};
 ghost use Rattle.layout.specs.Promises.{Has, LaidAs};
@@ -11,7 +11,8 @@ use crate::lists::separated;
 use crate::numbers::{HEAD, end, past, second};
 use crate::paths::ident;
 use crate::types::type_expr;
-use acts::Cursor;
+use acts::State;
+use comments::parsed::Parsed;
 
 // Where the span of the last type ends, of those from `from` up to `to`.
 fn last_end(b: &[u8], from: usize, to: usize) -> u32
@@ -29,20 +30,21 @@ fn last_end(b: &[u8], from: usize, to: usize) -> u32
 }
 
 // A variant, with its types where it has some. The span of their list ends with the last of them.
-pub(crate) fn variant(store: &mut [u32], c: Cursor, s: &[u8], b: &[u8], at: usize) -> Cursor
-    requires { Has VariantAt variant_rule s.now b.now at c }
-    ensures { LaidAs VariantAt variant_rule s.now b.now at store.old c store.new result }
+pub(crate) fn variant(state: &mut State<'_>, parsed: &Parsed<'_>, at: usize)
+    requires { Has VariantAt variant_rule parsed.now at state.old.cursor }
+    ensures { LaidAs VariantAt variant_rule parsed.now at state.old state.new }
 {
-    let p = second(b, at);
-    let to = past(b, p);
-    let d = ident(store, c, s, b, at + HEAD);
+    let image = parsed.image;
+    let p = second(image, at);
+    let to = past(image, p);
+    ident(state, parsed, at + HEAD);
     if p + HEAD == to {
-        return d;
+        return;
     }
-    let last = last_end(b, p + HEAD, to);
-    let item = |rows: &mut [u32], e: Cursor, q: usize| -> Cursor
-        requires { Has TypeAt type_expr s.now b.now q e }
-        ensures { LaidAs TypeAt type_expr s.entry.now b.entry.now q rows.old e rows.new result }
-    { type_expr(rows, e, s, b, q) };
-    separated(store, d, s, b, p, last, PARENS, item)
+    let last = last_end(image, p + HEAD, to);
+    let item = |inner: &mut State<'_>, q: usize|
+        requires { Has TypeAt type_expr parsed.now q inner.old.cursor }
+        ensures { LaidAs TypeAt type_expr parsed.entry.now q inner.old inner.new }
+    { type_expr(inner, parsed, q) };
+    separated(state, parsed, p, last, PARENS, item);
 }

@@ -16,12 +16,15 @@ use Rattle.tree.specs.At.{DeclarationsAt}
 use Rattle.tree.specs.Walk.{walked}
 use Rattle.tree.proofs.Walk.{declarations_from_lem, walked_within, walked_on, declarations_between}
 use Rattle.acts.specs.Laid.{st, Room, Laid}
+use Rattle.acts.specs.Does.{Does}
 use Rattle.acts.specs.declared.Cursor.{Cursor}
+use Rattle.acts.specs.declared.State.{State}
 use Rattle.tree.specs.CommentList.{comments_of}
 use Rattle.comments.specs.Listed.{given, Listed}
+use Rattle.comments.specs.declared.parsed.Parsed.{Parsed}
 use Rattle.comments.proofs.Accepted.{accepted_listed}
 use Rattle.comments.proofs.Fronts.{count_of}
-use Rattle.layout.specs.Promises.{Readable, Has, LaidAs, HasAll, LaidAll, InImage}
+use Rattle.layout.specs.Promises.{Readable, HasIn, LaidAs, HasAllIn, LaidAll, InImage}
 use Rattle.layout.specs.Forms.{MaybeIdentAt, declarations_from}
 use Rattle.layout.specs.Layout.{shebang_rule, declarations_rule}
 use Rattle.layout_facts.specs.Sound.{BYTE_GIVES, ROW_TAKES}
@@ -57,16 +60,23 @@ module _ {s b : List ℕ} {d : Document} (a : Accepts s b d) where
   pub comment_list : Listed s b
   comment_list = accepted_listed s b d a
 
-  ready : Readable s b
-  ready = record { listed = comment_list; small = stands.small }
+  ready : Readable b
+  ready = record { small = stands.small }
 
-  pub has_shebang : {c : Cursor} → Room (shebang_rule (given s b) (tree s b).shebang) c → Has MaybeIdentAt shebang_rule s b (at + 13) c
+  pub has_shebang : {c : Cursor} → Room (shebang_rule (given s b) (tree s b).shebang) c → HasIn MaybeIdentAt shebang_rule s b (at + 13) c
   has_shebang room = record { accepted = ready; tree = (tree s b).shebang; held = stands.tree.shebang; room = room }
 
-  pub shebang_laid : {x y : List ℕ} {c e : Cursor} → LaidAs MaybeIdentAt shebang_rule s b (at + 13) x c y e
-      → Room (shebang_rule (given s b) (tree s b).shebang) c → Laid (shebang_rule (given s b) (tree s b).shebang) x c y e
-  unfolding has_shebang
-  shebang_laid l room = l.of (has_shebang room)
+  module _ (p : Parsed) (i : p.source.now ≡ s) (j : p.image.now ≡ b) {x y : State} where
+    pub shebang_laid : LaidAs MaybeIdentAt shebang_rule p (at + 13) x y → Room (shebang_rule (given s b) (tree s b).shebang) x.cursor
+        → Does (shebang_rule (given s b) (tree s b).shebang) x y
+    unfolding has_shebang
+    shebang_laid l room = record { laid = go _ _ i j l.of; same = l.same }
+      where
+        go : (s' b' : List ℕ) → s' ≡ s → b' ≡ b
+            → ((h : HasIn MaybeIdentAt shebang_rule s' b' (at + 13) x.cursor)
+            → Laid (shebang_rule (given s' b') h.tree) x.store.now x.cursor y.store.now y.cursor)
+            → Laid (shebang_rule (given s b) (tree s b).shebang) x.store.now x.cursor y.store.now y.cursor
+        go s' b' e f k = (rw (e, f) at k) (has_shebang room)
 
   -- ---- the declarations
   abbrev ds : List Declaration
@@ -157,7 +167,7 @@ module _ {s b : List ℕ} {d : Document} (a : Accepts s b d) where
         (declarations_between s b ds from (to - from) (stop_at b (at + 13)) (stop_at b at) all)
 
     pub has_part : (first : Bool) {c : Cursor} → Room (declarations_rule (given s b) ys first) c
-        → HasAll DeclarationsAt (declarations_from first) s b (start_of s b at from) (start_of s b at to) c
+        → HasAllIn DeclarationsAt (declarations_from first) s b (start_of s b at from) (start_of s b at to) c
     has_part first room = record {
       accepted = ready;
       tree = ys;
@@ -166,11 +176,17 @@ module _ {s b : List ℕ} {d : Document} (a : Accepts s b d) where
       room = room;
     }
 
-    pub part_laid : (first : Bool) {x y : List ℕ} {c e : Cursor}
-        → LaidAll DeclarationsAt (declarations_from first) s b (start_of s b at from) (start_of s b at to) x c y e
-        → Room (declarations_rule (given s b) ys first) c → Laid (declarations_rule (given s b) ys first) x c y e
+    pub part_laid : (first : Bool) (p : Parsed) (i : p.source.now ≡ s) (j : p.image.now ≡ b) {x y : State}
+        → LaidAll DeclarationsAt (declarations_from first) p (start_of s b at from) (start_of s b at to) x y
+        → Room (declarations_rule (given s b) ys first) x.cursor → Does (declarations_rule (given s b) ys first) x y
     unfolding has_part
-    part_laid first l room = l.of (has_part first room)
+    part_laid first p i j {x} {y} l room = record { laid = go _ _ i j l.of; same = l.same }
+      where
+        go : (s' b' : List ℕ) → s' ≡ s → b' ≡ b
+            → ((h : HasAllIn DeclarationsAt (declarations_from first) s' b' (start_of s b at from) (start_of s b at to) x.cursor)
+            → Laid (declarations_rule (given s' b') h.tree first) x.store.now x.cursor y.store.now y.cursor)
+            → Laid (declarations_rule (given s b) ys first) x.store.now x.cursor y.store.now y.cursor
+        go s' b' e f k = (rw (e, f) at k) (has_part first room)
 
     parted : take from ds ++ (ys ++ drop (to - from) (drop from ds)) ≡ ds
     parted =

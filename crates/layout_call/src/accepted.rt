@@ -1,6 +1,7 @@
 // A source and an image that are accepted, with what the reader tells of them.
 ghost use Rattle.image.specs.Read.{Accepts};
 
+use comments::parsed::Parsed;
 use image::Document;
 use refusals::Refused;
 
@@ -25,5 +26,16 @@ impl<'a> Accepted<'a> {
     {
         let doc = image::check(source, image)?;
         Ok(Accepted { source, image, doc })
+    }
+
+    // What layout reads of it.
+    pub(crate) fn parsed(&self) -> Parsed<'a>
+        ensures { (result.source.now ≡ self.now.source.now) × (result.image.now ≡ self.now.image.now) }
+    {
+        // kept: what is accepted has a document besides, so that neither is the other with fields left out.
+        Parsed {
+            source: self.source,
+            image: self.image,
+        }
     }
 }

@@ -5,9 +5,8 @@ ghost use Rattle.acts.specs.Laid.{cursor};
 ghost use Rattle.layout_call.specs.Steps.{StateFits, Roomy};
 ghost use Rattle.layout_call.specs.Whole.{LayoutCalled};
 
-use crate::accepted::Accepted;
-use crate::steps::lay;
-use crate::{Laid, LayoutArgs, LayoutState};
+use crate::call::Call;
+use crate::{Laid, LayoutState};
 use acts::Cursor;
 
 // The cursor of a state whose numbers fit a row's places.
@@ -23,30 +22,27 @@ pub(crate) fn cursor_of(state: LayoutState) -> Cursor
     }
 }
 
-// Lays what is due, in a store that has room for it.
-pub(crate) fn laid(
-    store: &mut [u32],
-    file: Accepted<'_>,
-    state: LayoutState,
-    args: LayoutArgs,
-) -> Laid
-    requires { StateFits file.source.now file.image.now state args store.old × Roomy file.source.now file.image.now state args store.old }
-    ensures { LayoutCalled file.entry.source.now file.entry.image.now state args store.old (Ok result) store.new }
-{
-    let c = cursor_of(state);
-    let e = lay(store, c, file, state, args);
-    let placed = e.placed as usize;
-    Laid {
-        state: LayoutState {
-            begun: true,
-            closed: args.close,
-            declaration: args.stop,
-            row: e.row as usize,
-            number: e.number as usize,
-            placed,
-            position: e.pos as usize,
-            mode: args.mode,
-        },
-        left: file.doc.comments - placed,
+impl Call<'_> {
+    // Lays what is due, in a store that has room for it.
+    pub(crate) fn laid(&self, store: &mut [u32]) -> Laid
+        requires { StateFits self.now.file.source.now self.now.file.image.now self.now.state self.now.args store.old × Roomy self.now.file.source.now self.now.file.image.now self.now.state self.now.args store.old }
+        ensures { LayoutCalled self.now.file.source.now self.now.file.image.now self.now.state self.now.args store.old (Ok result) store.new }
+    {
+        let c = cursor_of(self.state);
+        let e = self.lay_from(store, c);
+        let placed = e.placed as usize;
+        Laid {
+            state: LayoutState {
+                begun: true,
+                closed: self.args.close,
+                declaration: self.args.stop,
+                row: e.row as usize,
+                number: e.number as usize,
+                placed,
+                position: e.pos as usize,
+                mode: self.args.mode,
+            },
+            left: self.file.doc.comments - placed,
+        }
     }
 }

@@ -1,6 +1,7 @@
 // What closing a document adds, by the mode.
 ghost use Rattle.std.specs.Prelude.{◌≡◌, ltb, length};
-ghost use Rattle.acts.specs.Laid.{Room, Laid};
+ghost use Rattle.acts.specs.Laid.{Room};
+ghost use Rattle.acts.specs.Does.{Does};
 ghost use Rattle.comments.specs.Listed.{given};
 ghost use Rattle.layout.specs.Closing.{place_waiting, closing};
 ghost use Rattle.whole_run.specs.Parts.{keeps_waiting};
@@ -8,8 +9,8 @@ ghost use Rattle.whole_run.specs.Built.{tree, declared};
 
 use crate::accepted::Accepted;
 use crate::modes::NEW_MODE;
-use acts::Cursor;
-use acts::leaves::line;
+use acts::State;
+use acts::leaves::Leaf;
 use comments::{Kept, pop_whitespace};
 use layout::numbers::{past, second};
 
@@ -21,39 +22,25 @@ fn has_declarations(file: Accepted<'_>) -> bool
 }
 
 // Places the comments that wait, "as `pop_whitespace` does when asked for the source length".
-fn place_waiting(store: &mut [u32], c: Cursor, file: Accepted<'_>) -> Cursor
-    requires { Room (place_waiting (given file.source.now file.image.now) (tree file.source.now file.image.now)) c }
-    ensures { Laid (place_waiting (given file.entry.source.now file.entry.image.now) (tree file.entry.source.now file.entry.image.now)) store.old c store.new result }
+fn place_waiting(layout: &mut State<'_>, file: Accepted<'_>)
+    requires { Room (place_waiting (given file.source.now file.image.now) (tree file.source.now file.image.now)) layout.old.cursor }
+    ensures { Does (place_waiting (given file.entry.source.now file.entry.image.now) (tree file.entry.source.now file.entry.image.now)) layout.old layout.new }
 {
-    let leading = has_declarations(file);
     let kept = Kept {
-        leading,
+        leading: has_declarations(file),
         ..Kept::NONE
     };
-    pop_whitespace(
-        store,
-        c,
-        file.source,
-        file.image,
-        file.source.len() as u32,
-        &kept,
-    )
-    .cursor
+    let parsed = file.parsed();
+    pop_whitespace(layout, &parsed, file.source.len() as u32, &kept);
 }
 
 // The final `Line`, in the new mode after the comments that wait.
-pub(crate) fn close_document(
-    store: &mut [u32],
-    c: Cursor,
-    file: Accepted<'_>,
-    mode: usize,
-) -> Cursor
-    requires { Room (closing (given file.source.now file.image.now) (tree file.source.now file.image.now) (keeps_waiting mode)) c }
-    ensures { Laid (closing (given file.entry.source.now file.entry.image.now) (tree file.entry.source.now file.entry.image.now) (keeps_waiting mode)) store.old c store.new result }
+pub(crate) fn close_document(layout: &mut State<'_>, file: Accepted<'_>, mode: usize)
+    requires { Room (closing (given file.source.now file.image.now) (tree file.source.now file.image.now) (keeps_waiting mode)) layout.old.cursor }
+    ensures { Does (closing (given file.entry.source.now file.entry.image.now) (tree file.entry.source.now file.entry.image.now) (keeps_waiting mode)) layout.old layout.new }
 {
     if mode == NEW_MODE {
-        let d = place_waiting(store, c, file);
-        return line(store, d);
+        place_waiting(layout, file);
     }
-    line(store, c)
+    layout.push(Leaf::Line);
 }

@@ -3,6 +3,7 @@
 
 pub mod accepted;
 mod answer;
+mod call;
 mod closing;
 mod fits;
 pub mod modes;
@@ -12,9 +13,9 @@ pub mod steps;
 ghost use Rattle.layout_call.specs.Whole.{LayoutCalled};
 
 use crate::accepted::Accepted;
-use crate::answer::{cursor_of, laid};
+use crate::answer::cursor_of;
+use crate::call::Call;
 use crate::fits::state_fits;
-use crate::room::rows_wanted;
 use crate::steps::count_declarations;
 use refusals::{Reason, Refused};
 use rows::places::PLACES;
@@ -56,17 +57,18 @@ pub fn layout_accepted(
 ) -> Result<Laid, Refused>
     ensures { LayoutCalled file.entry.source.now file.entry.image.now state args store.old result store.new }
 {
+    let call = Call { file, state, args };
     let rows = store.len() / PLACES;
     let declarations = count_declarations(file);
     let size = file.source.len();
     if !state_fits(state, args, declarations, file.doc.comments, size, rows) {
         return Err(Reason::State.at(0));
     }
-    let needed = rows_wanted(cursor_of(state), file, state, args, rows);
+    let needed = call.rows_wanted(cursor_of(state), rows);
     if rows < needed {
         return Err(Reason::RowsNeeded.at(needed));
     }
-    Ok(laid(store, file, state, args))
+    Ok(call.laid(store))
 }
 
 /// Lays a document out from its next declaration up to a stop, and closes it or not; or refuses to, and leaves the store as it was.

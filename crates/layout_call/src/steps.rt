@@ -2,6 +2,7 @@
 ghost use Rattle.std.specs.Prelude.{◌≡◌, not, ◌+◌, ◌≤◌, length};
 ghost use Rattle.acts.specs.Act.{when};
 ghost use Rattle.acts.specs.Laid.{Room, Laid};
+ghost use Rattle.acts.specs.Does.{Does};
 ghost use Rattle.comments.specs.Listed.{given};
 ghost use Rattle.layout.specs.Layout.{shebang_rule};
 ghost use Rattle.layout.specs.Closing.{closing};
@@ -9,10 +10,11 @@ ghost use Rattle.whole_run.specs.Parts.{keeps_waiting};
 ghost use Rattle.whole_run.specs.Built.{tree, declared};
 ghost use Rattle.layout_call.specs.Steps.{start_of, call_act};
 
+use crate::LayoutArgs;
 use crate::accepted::Accepted;
+use crate::call::Call;
 use crate::closing::close_document;
-use crate::{LayoutArgs, LayoutState};
-use acts::Cursor;
+use acts::{Cursor, State};
 use layout::declarations::{declarations, shebang};
 use layout::numbers::{HEAD, past, second};
 
@@ -44,43 +46,52 @@ fn declaration_at(file: Accepted<'_>, k: usize) -> usize
 }
 
 // "The first call lays the shebang"
-fn begin(store: &mut [u32], c: Cursor, file: Accepted<'_>, begun: bool) -> Cursor
-    requires { Room (when (not begun) (shebang_rule (given file.source.now file.image.now) (tree file.source.now file.image.now).shebang)) c }
-    ensures { Laid (when (not begun) (shebang_rule (given file.entry.source.now file.entry.image.now) (tree file.entry.source.now file.entry.image.now).shebang)) store.old c store.new result }
+fn begin(layout: &mut State<'_>, file: Accepted<'_>, begun: bool)
+    requires { Room (when (not begun) (shebang_rule (given file.source.now file.image.now) (tree file.source.now file.image.now).shebang)) layout.old.cursor }
+    ensures { Does (when (not begun) (shebang_rule (given file.entry.source.now file.entry.image.now) (tree file.entry.source.now file.entry.image.now).shebang)) layout.old layout.new }
 {
     if begun {
-        return c;
+        return;
     }
-    shebang(store, c, file.source, file.image, file.doc.tree + HEAD)
+    let parsed = file.parsed();
+    shebang(layout, &parsed, file.doc.tree + HEAD);
 }
 
 // "closing .. adds the final `Line`", by the mode
-fn end(store: &mut [u32], c: Cursor, file: Accepted<'_>, args: LayoutArgs) -> Cursor
-    requires { Room (when args.close (closing (given file.source.now file.image.now) (tree file.source.now file.image.now) (keeps_waiting args.mode))) c }
-    ensures { Laid (when args.close (closing (given file.entry.source.now file.entry.image.now) (tree file.entry.source.now file.entry.image.now) (keeps_waiting args.mode))) store.old c store.new result }
+fn end(layout: &mut State<'_>, file: Accepted<'_>, args: LayoutArgs)
+    requires { Room (when args.close (closing (given file.source.now file.image.now) (tree file.source.now file.image.now) (keeps_waiting args.mode))) layout.old.cursor }
+    ensures { Does (when args.close (closing (given file.entry.source.now file.entry.image.now) (tree file.entry.source.now file.entry.image.now) (keeps_waiting args.mode))) layout.old layout.new }
 {
     if args.close {
-        return close_document(store, c, file, args.mode);
+        close_document(layout, file, args.mode);
     }
-    c
 }
 
-// The shebang if nothing is laid yet, the declarations from one up to another, what closing adds if the call closes.
-pub(crate) fn lay(
-    store: &mut [u32],
-    c: Cursor,
-    file: Accepted<'_>,
-    state: LayoutState,
-    args: LayoutArgs,
-) -> Cursor
-    requires stop { (state.declaration ≤ args.stop) × (args.stop ≤ length (declared file.source.now file.image.now)) }
-    requires room { Room (call_act file.source.now file.image.now state args) c }
-    ensures { Laid (call_act file.entry.source.now file.entry.image.now state args) store.old c store.new result }
-{
-    let from = state.declaration;
-    let d = begin(store, c, file, state.begun);
-    let p = declaration_at(file, from);
-    let q = declaration_at(file, args.stop);
-    let e = declarations(store, d, file.source, file.image, p, q, from == 0);
-    end(store, e, file, args)
+impl Call<'_> {
+    // The shebang if nothing is laid yet, the declarations from one up to another, what closing adds if the call closes.
+    fn lay(&self, layout: &mut State<'_>)
+        requires stop { (self.now.state.declaration ≤ self.now.args.stop) × (self.now.args.stop ≤ length (declared self.now.file.source.now self.now.file.image.now)) }
+        requires room { Room (call_act self.now.file.source.now self.now.file.image.now self.now.state self.now.args) layout.old.cursor }
+        ensures { Does (call_act self.now.file.source.now self.now.file.image.now self.now.state self.now.args) layout.old layout.new }
+    {
+        let file = self.file;
+        let from = self.state.declaration;
+        begin(layout, file, self.state.begun);
+        let p = declaration_at(file, from);
+        let q = declaration_at(file, self.args.stop);
+        let parsed = file.parsed();
+        declarations(layout, &parsed, p, q, from == 0);
+        end(layout, file, self.args);
+    }
+
+    // The same in a store, from a cursor on; it returns the cursor behind it.
+    pub(crate) fn lay_from(&self, store: &mut [u32], c: Cursor) -> Cursor
+        requires stop { (self.now.state.declaration ≤ self.now.args.stop) × (self.now.args.stop ≤ length (declared self.now.file.source.now self.now.file.image.now)) }
+        requires room { Room (call_act self.now.file.source.now self.now.file.image.now self.now.state self.now.args) c }
+        ensures { Laid (call_act self.now.file.source.now self.now.file.image.now self.now.state self.now.args) store.old c store.new result }
+    {
+        let mut layout = State { store, cursor: c };
+        self.lay(&mut layout);
+        layout.cursor
+    }
 }

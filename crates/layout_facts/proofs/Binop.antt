@@ -12,7 +12,8 @@ use Rattle.ast.specs.Syntax.{assign, compound_assign, bin_op, negate, if_else, w
 use Rattle.rows.specs.Node.{Nodes, none, ◌then◌, join, line_or_space}
 use Rattle.acts.specs.Act.{Given, St, Out, Act, ◌⨟◌, skip, push, grouped, indented}
 use Rattle.acts.proofs.Laws.{then_assoc}
-use Rattle.layout.specs.Layout.{Operands, binop_precedence, operator, leftmost, binop, popped, operands, operands_form, expr_with_precedence, expr_form, expr_rule}
+use Rattle.layout.specs.Layout.{Operands, binop_precedence, operator, leftmost, binop, popped, operands}
+use Rattle.layout.specs.Layout.{operands_form, expr_with_precedence, expr_form, expr_rule}
 use Rattle.layout_facts.specs.Binop.{Pushed, pushed, Descent, descent, descend, descend_form, pop_ops, binop_of_rust, BinopAsRust}
 
 join_none : (ns : Nodes) → join ns none ≡ ns

@@ -15,7 +15,8 @@ use Rattle.rows.specs.Words.{among}
 use Rattle.acts.specs.Act.{Given, Act}
 use Rattle.comments.specs.Comments.{whitespace, pop_whitespace}
 use Rattle.layout.specs.declared.forms.WrapStyle.TheVariants.{Tight, Wrap}
-use Rattle.layout.specs.Layout.{some_type_params, Bottom, params, type_params, ident_elems, field_elems, opening, variant_elems, declaration, declares, shebang_rule}
+use Rattle.layout.specs.Layout.{some_type_params, Bottom, params, type_params, ident_elems, field_elems}
+use Rattle.layout.specs.Layout.{opening, variant_elems, declaration, declares, shebang_rule}
 use Rattle.layout.specs.Layout.{declarations_rule, import_span, unless_empty}
 use Rattle.layout_facts.specs.Sound.{Ranged, Commented, BYTE_GIVES, ROW_TAKES, Sounds}
 use Rattle.layout.specs.Closing.{closing, whole_rule}

@@ -26,10 +26,14 @@ use Rattle.layout.specs.declared.forms.WrapStyle.{WrapStyle}
 use Rattle.layout.specs.declared.forms.WrapStyle.TheVariants.{Tight, Spaced, Wrap}
 use Rattle.layout.specs.Layout.{edge, is_wrap, opens, ends, inside, before_elem, path_next, operator, maybe_expr, placeholder, clause, block_start, before_stmt}
 use Rattle.layout.specs.Layout.{after_stmt, leftmost, popped, some_type_params, Elem, Operands, Bottom, Chain, Unit', binop_precedence, symbol, assign_symbol}
-use Rattle.layout.specs.Layout.{return_word, elements, separated, path_more, path_rule, ident_elems, type_expr, type_form, type_args, type_elems, field_elems, params}
-use Rattle.layout.specs.Layout.{type_params, import_path, import_group, import_items, import_elems, pattern, binop, literal_rule, expr_with_precedence, expr_form}
-use Rattle.layout.specs.Layout.{operands, operands_form, otherwise, expr_elems, grouped_elems, entry_elems, arm_elems, parts_rule, block_rule, stmts_rule, last_rule}
-use Rattle.layout.specs.Layout.{stmt_rule, stmt_form, opening, variant_elems, declaration, declares, shebang_rule, declarations_rule, import_span, none_of, is_empty}
+use Rattle.layout.specs.Layout.{return_word, elements, separated, path_more, path_rule, ident_elems}
+use Rattle.layout.specs.Layout.{type_expr, type_form, type_args, type_elems, field_elems, params}
+use Rattle.layout.specs.Layout.{type_params, import_path, import_group, import_items, import_elems}
+use Rattle.layout.specs.Layout.{pattern, binop, literal_rule, expr_with_precedence, expr_form}
+use Rattle.layout.specs.Layout.{operands, operands_form, otherwise, expr_elems, grouped_elems, entry_elems}
+use Rattle.layout.specs.Layout.{arm_elems, parts_rule, block_rule, stmts_rule, last_rule}
+use Rattle.layout.specs.Layout.{stmt_rule, stmt_form, opening, variant_elems, declaration, declares}
+use Rattle.layout.specs.Layout.{shebang_rule, declarations_rule, import_span, none_of, is_empty}
 use Rattle.layout.specs.Layout.{is_block, is_braced, unless_empty, one_or, ident, let_type, return_type, import_first, is_some, is_group}
 use Rattle.layout.specs.Elems.{mark}
 use Rattle.layout.specs.Closing.{closing, whole_rule, call_rule}

@@ -24,7 +24,8 @@ comments_in_nodes_join : (ns ms : Nodes) → comments_in_nodes (join ns ms) ≡ 
 unfolding comments_in_nodes join
 comments_in_nodes_join none ms = refl
 comments_in_nodes_join (n then ns) ms =
-    ap (λ (l : List Text). comments_of_node n ++ l) (comments_in_nodes_join ns ms) ∙ sym (append_assoc (comments_of_node n) (comments_in_nodes ns) (comments_in_nodes ms))
+    ap (λ (l : List Text). comments_of_node n ++ l) (comments_in_nodes_join ns ms)
+    ∙ sym (append_assoc (comments_of_node n) (comments_in_nodes ns) (comments_in_nodes ms))
 
 between_join : (g : Given) (k m n : ℕ) → k ≤ m → m ≤ n → between g k m ++ between g m n ≡ between g k n
 between_join g k m n h i =

@@ -10,7 +10,11 @@ use lib.ListN.{length, get_or, set, replicate, length-set, length-replicate}
 use lib.Seq.{sets}
 use borrow.Rule.Slice.PartMut.{put_mid, mid_of, mid_len}
 use borrow.Author.Tests.{ne_eqb}
-use Rattle.rows.specs.Kinds.{GROUP, IF_WRAP, CALL}
+use Rattle.std.specs.Prelude.{Some, None}
+use Rattle.rows.specs.Kinds.{GROUP, IF_WRAP, CALL, number_of, kind_of}
+use Rattle.rows.specs.declared.kinds.Kind.{Kind}
+use Rattle.rows.specs.declared.kinds.Kind.TheVariants.{Group, IfWrap, Call}
+use Rattle.rows.proofs.KindOf.{is_kind, not_number, no_number}
 use Rattle.rows.specs.Places.{KIND, NUMBER, SECOND_NUMBER, WIDTH, PLACES}
 use Rattle.laws.proofs.Numbers.{one_more}
 use Rattle.rows.specs.View.{cell}
@@ -31,23 +35,33 @@ sets_clear (suc n) i m = sets_clear n (suc i) (set m i 0)
 pub cleared_part : (m zeros : List ℕ) (from to : ℕ) → from < to → to ≤ length m → zeros ≡ replicate (length (mid_of from (to - from) m)) 0
     → put_mid from (to - from) m zeros ≡ clear_from (to - from) from m
 cleared_part m zeros from to h l e =
-    rw (e, mid_len from to m l) (part_sets (replicate (to - from) 0) m from (to - from) (length-replicate (to - from) 0) (omega arith) ∙ sets_clear (to - from) from m)
+    rw (e, mid_len from to m l)
+    (part_sets (replicate (to - from) 0) m from (to - from) (length-replicate (to - from) 0) (omega arith) ∙ sets_clear (to - from) from m)
 
 pub cleared_none : (n i : ℕ) (m : List ℕ) → n ≡ 0 → m ≡ clear_from n i m
 unfolding clear_from
 cleared_none n i m e = rw e
 
 -- the numbers of a row, by what the code tests
-pub numbers_call : (s : List ℕ) (i kind a b : ℕ) → kind ≡ cell s i KIND → a ≡ cell s i NUMBER
-    → b ≡ cell s i SECOND_NUMBER → kind ≡ CALL → a ∷ b ∷ [] ≡ numbers_of s i
-numbers_call s i kind a b e f g k = rw (← e, k, f, g)
+pub numbers_call : (s : List ℕ) (i a b : ℕ) (k : Kind) → kind_of (cell s i KIND) ≡ Some k → a ≡ cell s i NUMBER
+    → b ≡ cell s i SECOND_NUMBER → k ≡ Call → a ∷ b ∷ [] ≡ numbers_of s i
+numbers_call s i a b k e f g h = rw (is_kind _ k e ∙ ap number_of h, f, g)
 
-pub numbers_one : (s : List ℕ) (i kind a : ℕ) → kind ≡ cell s i KIND → a ≡ cell s i NUMBER → (kind ≡ GROUP) ⊎ (kind ≡ IF_WRAP) → a ∷ [] ≡ numbers_of s i
-numbers_one s i kind a e f (inl k) = rw (← e, k, f)
-numbers_one s i kind a e f (inr k) = rw (← e, k, f)
+pub numbers_one : (s : List ℕ) (i a : ℕ) (k : Kind) → kind_of (cell s i KIND) ≡ Some k → a ≡ cell s i NUMBER → (k ≡ Group) ⊎ (k ≡ IfWrap)
+    → a ∷ [] ≡ numbers_of s i
+numbers_one s i a k e f (inl h) = rw (is_kind _ k e ∙ ap number_of h, f)
+numbers_one s i a k e f (inr h) = rw (is_kind _ k e ∙ ap number_of h, f)
 
-pub numbers_none : (s : List ℕ) (i kind : ℕ) → kind ≡ cell s i KIND → (kind ≡ CALL → ⊥) → ((kind ≡ GROUP) ⊎ (kind ≡ IF_WRAP) → ⊥) → [] ≡ numbers_of s i
-numbers_none s i kind e a b = rw (← e, ne_eqb kind 11 a, ne_eqb kind 0 (λ q. b (inl q)), ne_eqb kind 10 (λ q. b (inr q)))
+no_numbers : (s : List ℕ) (i : ℕ) → (cell s i KIND ≡ CALL → ⊥) → (cell s i KIND ≡ GROUP → ⊥) → (cell s i KIND ≡ IF_WRAP → ⊥) → [] ≡ numbers_of s i
+no_numbers s i a b c = rw (ne_eqb (cell s i KIND) 11 a, ne_eqb (cell s i KIND) 0 b, ne_eqb (cell s i KIND) 10 c)
+
+pub numbers_none : (s : List ℕ) (i : ℕ) (k : Kind) → kind_of (cell s i KIND) ≡ Some k → (k ≡ Call → ⊥) → (k ≡ Group → ⊥) → (k ≡ IfWrap → ⊥) → [] ≡ numbers_of s i
+numbers_none s i k e a b c =
+    let n = is_kind _ k e in
+    no_numbers s i (not_number Call n a) (not_number Group n b) (not_number IfWrap n c)
+
+pub numbers_no_kind : (s : List ℕ) (i : ℕ) → kind_of (cell s i KIND) ≡ None → [] ≡ numbers_of s i
+numbers_no_kind s i e = no_numbers s i (no_number Call e) (no_number Group e) (no_number IfWrap e)
 
 pack_two : (x y : ℕ) → x + 256 * y ≡ packed_marks (x ∷ y ∷ [])
 unfolding packed_marks

@@ -16,7 +16,8 @@ use Rattle.rows.specs.View.{cell}
 use Rattle.marks.proofs.Restored.{has, set_zero, clear_other, put_back_lem, rubbed}
 use Rattle.marks.proofs.Scratch.{other}
 use Rattle.marks.proofs.Aside.{aside_rows, aside_marks, back_marks}
-use Rattle.marks.specs.Marks.{clear, saved, cleared_all, restore, numbers_of, packed_marks, unpacked_marks, Held, held, row_aside, put_aside, row_back, put_back}
+use Rattle.marks.specs.Marks.{clear, saved, cleared_all, restore, numbers_of, packed_marks, unpacked_marks}
+use Rattle.marks.specs.Marks.{Held, held, row_aside, put_aside, row_back, put_back}
 
 -- x is a number of one of the n rows from i on
 unfoldable pub owns : ℕ → ℕ → List ℕ → ℕ → Bool

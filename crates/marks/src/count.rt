@@ -4,9 +4,9 @@ ghost use Rattle.rows.specs.Places.{WIDTH, PLACES};
 ghost use Rattle.rows.specs.Limits.{CELL_LIMIT};
 ghost use Rattle.marks.specs.Marks.{row_marks, clear_from};
 
-use rows::kinds::{CALL, GROUP, IF_WRAP};
-use rows::places::{KIND, NUMBER, SECOND_NUMBER};
-use rows::store::place;
+use rows::kinds::Kind;
+use rows::places::{NUMBER, SECOND_NUMBER};
+use rows::store::{place, row_kind};
 
 // How many marks a row needs.
 pub fn row_marks(store: &[u32], row: usize) -> usize
@@ -14,9 +14,9 @@ pub fn row_marks(store: &[u32], row: usize) -> usize
     ensures { (result ≡ row_marks store.now row) × (result ≤ CELL_LIMIT) }
 {
     let number = place(store, row, NUMBER);
-    match place(store, row, KIND) {
-        CALL => 1 + number.max(place(store, row, SECOND_NUMBER)),
-        GROUP | IF_WRAP => 1 + number,
+    match row_kind(store, row) {
+        Some(Kind::Call) => 1 + number.max(place(store, row, SECOND_NUMBER)),
+        Some(Kind::Group | Kind::IfWrap) => 1 + number,
         _ => 0,
     }
 }

@@ -3,9 +3,9 @@ ghost use Rattle.std.specs.Prelude.{◌≡◌, ◌+◌, ◌*◌, ◌-◌, ◌%�
 ghost use Rattle.rows.specs.Places.{WIDTH, PLACES};
 ghost use Rattle.marks.specs.Marks.{clear, numbers_of, held, row_aside, put_aside, row_back, put_back, BYTE};
 
-use rows::kinds::{CALL, GROUP, IF_WRAP};
-use rows::places::{KIND, NUMBER, PLACES, SECOND_NUMBER, WIDTH};
-use rows::store::place;
+use rows::kinds::Kind;
+use rows::places::{NUMBER, PLACES, SECOND_NUMBER, WIDTH};
+use rows::store::{place, row_kind};
 
 // The values of a byte.
 const BYTE: u32 = 256;
@@ -30,14 +30,17 @@ fn row_aside(store: &mut [u32], marks: &mut [u8], in_use: usize, row: usize)
     ensures { held store.new marks.new ≡ row_aside in_use (numbers_of store.old row) (held store.old marks.old) row }
 {
     let number = place(store, row, NUMBER);
-    match place(store, row, KIND) {
-        CALL => {
+    let Some(kind) = row_kind(store, row) else {
+        return;
+    };
+    match kind {
+        Kind::Call => {
             let second = place(store, row, SECOND_NUMBER);
             let one = take_mark(marks, in_use, number);
             let two = take_mark(marks, in_use, second);
             store[row * PLACES + WIDTH] = one + BYTE * two;
         }
-        GROUP | IF_WRAP => {
+        Kind::Group | Kind::IfWrap => {
             store[row * PLACES + WIDTH] = take_mark(marks, in_use, number);
         }
         _ => {}
@@ -60,8 +63,11 @@ fn row_back(store: &mut [u32], marks: &mut [u8], row: usize)
 {
     let number = place(store, row, NUMBER);
     let old = store[row * PLACES + WIDTH];
-    match place(store, row, KIND) {
-        CALL => {
+    let Some(kind) = row_kind(store, row) else {
+        return;
+    };
+    match kind {
+        Kind::Call => {
             set_mark(
                 marks,
                 place(store, row, SECOND_NUMBER),
@@ -70,7 +76,7 @@ fn row_back(store: &mut [u32], marks: &mut [u8], row: usize)
             set_mark(marks, number, (old % BYTE) as u8);
             store[row * PLACES + WIDTH] = 0;
         }
-        GROUP | IF_WRAP => {
+        Kind::Group | Kind::IfWrap => {
             set_mark(marks, number, (old % BYTE) as u8);
             store[row * PLACES + WIDTH] = 0;
         }

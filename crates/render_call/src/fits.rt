@@ -6,8 +6,9 @@ ghost use Rattle.cut_rule.specs.Parts.{width_line};
 ghost use Rattle.render_call.specs.Calls.{to_state, goes_to, to_args};
 ghost use Rattle.refusals.specs.Reasons.{refusal_in};
 
+use crate::RenderState;
+use crate::call::Call;
 use crate::width::width_fits;
-use crate::{RenderArgs, RenderState};
 use refusals::{Reason, Refused};
 use rows::limits::MAX_ROWS;
 use rows::places::PLACES;
@@ -39,25 +40,22 @@ fn marks_fit(marks: &[u8], used: usize) -> bool
 }
 
 // Whether the state is one that this call may have.
-fn state_fits(state: RenderState, args: RenderArgs, store: &[u32], marks: &[u8]) -> bool
-    ensures { result ≡ not (any (render_tests (to_args args 0) (to_state state) store.now marks.now)) }
+fn state_fits(call: &Call<'_>, store: &[u32], marks: &[u8]) -> bool
+    ensures { result ≡ not (any (render_tests (to_args call.now.args 0) (to_state call.now.state) store.now marks.now)) }
 {
-    row_fits(state.row, args.stop, store) && pen_fits(state) && marks_fit(marks, state.in_use)
+    row_fits(call.state.row, call.args.stop, store)
+        && pen_fits(call.state)
+        && marks_fit(marks, call.state.in_use)
 }
 
 // Refusals 12 and 15.
-pub(crate) fn state_refusal(
-    state: RenderState,
-    args: RenderArgs,
-    store: &[u32],
-    marks: &[u8],
-) -> Result<(), Refused>
-    ensures { refusal_in result ≡ first (refuse_if (any (render_tests (to_args args 0) (to_state state) store.now marks.now)) 12 0 ∷ width_line (goes_to args).choice (to_state state) ∷ []) }
+pub(crate) fn state_refusal(call: &Call<'_>, store: &[u32], marks: &[u8]) -> Result<(), Refused>
+    ensures { refusal_in result ≡ first (refuse_if (any (render_tests (to_args call.now.args 0) (to_state call.now.state) store.now marks.now)) 12 0 ∷ width_line (goes_to call.now.args).choice (to_state call.now.state) ∷ []) }
 {
-    if !state_fits(state, args, store, marks) {
+    if !state_fits(call, store, marks) {
         return Err(Reason::State.at(0));
     }
-    if !width_fits(args.width, state.width) {
+    if !width_fits(call.args.width, call.state.width) {
         return Err(Reason::Width.at(0));
     }
     Ok(())

@@ -1,6 +1,7 @@
 // Rendering calls: state, arguments, answer, and the call.
 #![tactic(auto)]
 
+mod call;
 mod dry_run;
 mod fits;
 mod refusal;
@@ -10,6 +11,7 @@ pub mod width;
 
 ghost use Rattle.render_call.specs.Whole.{RenderCalled, Draws, Checked};
 
+use crate::call::Call;
 use crate::refusal::refusal;
 use crate::room::rows_need;
 use crate::run::render_accepted;
@@ -49,6 +51,7 @@ pub struct Drawn {
 }
 
 // A rendering call that 1, 3, 11, 12 and 15 do not refuse.
+// kept: here and below, each of what C lends by itself, as `exports` has it.
 pub fn render_checked(
     source: &[u8],
     image: &[u8],
@@ -66,7 +69,13 @@ pub fn render_checked(
     if marks.len() < n.marks {
         return Err(Reason::MarksNeeded.at(n.marks));
     }
-    render_accepted(source, image, store, marks, out, state, args, n)
+    let call = Call {
+        source,
+        image,
+        state,
+        args,
+    };
+    render_accepted(&call, store, marks, out, n)
 }
 
 // A rendering call: renders the rows from the state's next row up to a stop.
@@ -81,7 +90,13 @@ pub fn render_call(
 ) -> Result<Written, Refused>
     ensures { RenderCalled source.now image.now state args store.old marks.old out.old result store.new marks.new out.new }
 {
-    refusal(source, image, store, marks, state, args)?;
+    let call = Call {
+        source,
+        image,
+        state,
+        args,
+    };
+    refusal(&call, store, marks)?;
     let drawn = render_checked(source, image, store, marks, out, state, args)?;
     Ok(drawn.written)
 }

@@ -9,23 +9,24 @@ ghost use Rattle.renderer_rules.specs.Most.{row_most, rows_most};
 
 use marks::count::row_marks;
 use renderer::writing::margin_bytes;
-use rows::kinds::{
-    ASCII, CALL, COMMENT, EMPTY_LINE, INDENT, INDENT_NEXT, LINE, LINE_OR_SPACE, STR,
-};
-use rows::places::{AFTER, KIND};
-use rows::store::{place, text_size};
+use rows::kinds::Kind;
+use rows::places::AFTER;
+use rows::store::{place, row_kind, text_size};
 use rows::units::Bytes;
 
 // What a row adds at most.
+// kept: a choice by a kind, which is read from the row, and not among steps that a caller has.
 fn row_most(store: &[u32], row: usize, margin: usize) -> Bytes
     requires { (row * PLACES + WIDTH < length store.now) × (margin ≤ START_MARGIN) }
     ensures { (result.0 ≡ row_most margin store.now row (cell store.now row KIND)) × (result.0 ≤ ROW_GROWTH) }
 {
-    match place(store, row, KIND) {
-        INDENT | INDENT_NEXT | CALL => Bytes(4 * place(store, row, AFTER).saturating_sub(row)),
-        COMMENT => text_size(store, row) + Bytes(2) + margin_bytes(margin),
-        STR | ASCII => text_size(store, row),
-        LINE | EMPTY_LINE | LINE_OR_SPACE => Bytes(2) + margin_bytes(margin),
+    match row_kind(store, row) {
+        Some(Kind::Indent | Kind::IndentNext | Kind::Call) => {
+            Bytes(4 * place(store, row, AFTER).saturating_sub(row))
+        }
+        Some(Kind::Comment) => text_size(store, row) + Bytes(2) + margin_bytes(margin),
+        Some(Kind::Str | Kind::Ascii) => text_size(store, row),
+        Some(Kind::Line | Kind::EmptyLine | Kind::LineOrSpace) => Bytes(2) + margin_bytes(margin),
         _ => Bytes(0),
     }
 }

@@ -1,16 +1,16 @@
 // How the open part of a row ends, and what the end of a row takes back.
 ghost use Rattle.std.specs.Prelude.{◌≡◌, ◌+◌, ◌*◌, ◌<◌, length};
-ghost use Rattle.rows.specs.Places.{WIDTH, PLACES};
-ghost use Rattle.rows.specs.View.{view_of};
+ghost use Rattle.rows.specs.Places.{KIND, WIDTH, PLACES};
+ghost use Rattle.rows.specs.View.{view_of, cell};
 ghost use Rattle.renderer_rules.specs.Frames.{part_end};
 ghost use Rattle.renderer.specs.Run.{with_frames, closed_run, closes, Backs, Leaves, Left};
 
 use crate::frames::Frames;
 use crate::run::Run;
 use renderer_rules::{Frame, Pen};
-use rows::kinds::{CALL, INDENT, INDENT_NEXT};
-use rows::places::{AFTER, KIND, SECOND};
-use rows::store::place;
+use rows::kinds::Kind;
+use rows::places::{AFTER, SECOND};
+use rows::store::{has_kind, place, row_kind};
 use rows::units::Columns;
 
 // Where the open part of a row ends.
@@ -23,14 +23,14 @@ pub(crate) fn part_end(store: &[u32], f: Frame) -> usize
 }
 
 // What the end of a row takes back.
-fn take_back(pen: &mut Pen, kind: usize, f: Frame)
-    requires { Backs kind f pen.old }
-    ensures { pen.new ≡ closes kind f pen.old }
+fn take_back(pen: &mut Pen, store: &[u32], f: Frame)
+    requires { (f.row * PLACES + WIDTH < length store.now) × Backs (cell store.now f.row KIND) f pen.old }
+    ensures { pen.new ≡ closes (cell store.now f.row KIND) f pen.old }
 {
-    match kind {
-        INDENT => pen.indent_less(f.wrap),
-        INDENT_NEXT => pen.next_indent_less(f.wrap),
-        CALL => pen.next_indent_less(f.deeper),
+    match row_kind(store, f.row as usize) {
+        Some(Kind::Indent) => pen.indent_less(f.wrap),
+        Some(Kind::IndentNext) => pen.next_indent_less(f.wrap),
+        Some(Kind::Call) => pen.next_indent_less(f.deeper),
         _ => {}
     }
 }
@@ -41,10 +41,9 @@ impl Run {
         requires { Leaves store.now (with_frames frames.old self.old) f }
         ensures { with_frames frames.new self.new ≡ closed_run store.now (with_frames frames.old self.old) f }
     {
-        let row = f.row as usize;
-        take_back(&mut self.writing.pen, place(store, row, KIND), f);
+        take_back(&mut self.writing.pen, store, f);
         frames.pop();
-        self.next = place(store, row, AFTER);
+        self.next = place(store, f.row as usize, AFTER);
     }
 
     // The open part of the innermost row is done.
@@ -59,7 +58,7 @@ impl Run {
         requires { Leaves store.now (with_frames frames.old self.old) f }
         ensures { Left store.now max.0 marks.old (with_frames frames.old self.old) f marks.new (with_frames frames.new self.new) }
     {
-        if place(store, f.row as usize, KIND) == CALL && f.first {
+        if f.first && has_kind(store, f.row as usize, Kind::Call) {
             self.enter_arguments(frames, f, store, marks, max);
         } else {
             self.close(frames, f, store);

@@ -1,4 +1,5 @@
 // What fits: the column, and whether rows wrap there.
+// kept: the rows are a store and two numbers, for speed, as in measure.rt.
 ghost use Rattle.std.specs.Prelude.{◌≡◌, ◌+◌, ◌≤◌, ◌<◌, [], ltb};
 ghost use Rattle.rows.specs.Node.{widths, byte_columns};
 ghost use Rattle.renderer.specs.Limits.{MAX_MARGIN, BEFORE_ROW};

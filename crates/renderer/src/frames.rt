@@ -15,6 +15,14 @@ const AROUND: Frame = Frame {
     deeper: false,
 };
 
+// What stands where no row is open: all 0, so that the list is made by clearing memory.
+const NONE: Frame = Frame {
+    row: 0,
+    wrap: false,
+    first: false,
+    deeper: false,
+};
+
 // The open rows, the outermost first, and how many they are.
 // kept: not `rows::stack::Stack`, since no struct holds an array of a type parameter; and its fields are seen, as the machine of the rules has them.
 #[derive(Drop)]
@@ -28,7 +36,7 @@ impl Frames {
         ensures { (result.depth ≡ 0) × (length result.items ≡ MAX_DEPTH) }
     {
         Frames {
-            items: [AROUND; MAX_DEPTH],
+            items: [NONE; MAX_DEPTH],
             depth: 0,
         }
     }

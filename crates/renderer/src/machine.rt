@@ -1,6 +1,6 @@
 // `render_node` over rows: a loop that keeps the open rows.
 ghost use Rattle.std.specs.Prelude.{◌≡◌, ◌-◌, ◌≤◌, ◌<◌, true, false, cond, ◌||◌, length, ltb};
-ghost use Rattle.rows.specs.Kinds.{WRAP_PARENT, LINE_OR_SPACE};
+ghost use Rattle.rows.specs.Kinds.{WRAP_PARENT, LINE_OR_SPACE, number_of};
 ghost use Rattle.rows.specs.View.{view_of, nodes_at};
 ghost use Rattle.renderer_rules.specs.Page.{page_of};
 ghost use Rattle.renderer_rules.specs.Renderer.{fresh_renderer, render_nodes};
@@ -12,15 +12,17 @@ use crate::frames::Frames;
 use crate::leaf::{LeafRow, leaf};
 use crate::run::{Bounds, Run};
 use crate::writing::Writing;
-use rows::kinds::{LINE_OR_SPACE, WRAP_PARENT};
-use rows::places::KIND;
-use rows::store::place;
+use rows::kinds::Kind;
+use rows::store::kind;
 
 // Whether rows of a kind have parts.
-fn has_parts(kind: usize) -> bool
-    ensures { result ≡ (ltb kind WRAP_PARENT || ltb LINE_OR_SPACE kind) }
+fn has_parts(kind: Kind) -> bool
+    ensures { result ≡ (ltb (number_of kind) WRAP_PARENT || ltb LINE_OR_SPACE (number_of kind)) }
 {
-    kind < WRAP_PARENT || LINE_OR_SPACE < kind
+    matches!(
+        kind,
+        Kind::Group | Kind::Indent | Kind::IndentNext | Kind::IfWrap | Kind::Call
+    )
 }
 
 // One turn: the innermost row is left, or the next row entered.
@@ -42,7 +44,7 @@ fn step(
         r.leave(frames, f, store, marks, bounds.max);
         return;
     }
-    let kind = place(store, r.next, KIND);
+    let kind = kind(store, r.next);
     if has_parts(kind) {
         r.open_row(frames, f.wrap, kind, store, marks, bounds.max);
         return;
@@ -57,6 +59,7 @@ fn step(
 }
 
 // Renders rows: from a row on, with no row open, up to the stop.
+// kept: what is next is read from the row, so that no range has the turns.
 pub fn run_rows(
     start: Writing,
     from: usize,

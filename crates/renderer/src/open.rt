@@ -1,6 +1,6 @@
 // How a row with parts is opened, and how the second part of a `Call` is.
 ghost use Rattle.std.specs.Prelude.{◌≡◌, ℕ, ◌+◌, ◌*◌, ◌≤◌, ◌<◌, true, false, cond, not, ◌&&◌, List, length, eqb};
-ghost use Rattle.rows.specs.Kinds.{GROUP, INDENT, WRAP_PARENT, LINE_OR_SPACE};
+ghost use Rattle.rows.specs.Kinds.{GROUP, INDENT, WRAP_PARENT, LINE_OR_SPACE, number_of};
 ghost use Rattle.rows.specs.Places.{KIND, NUMBER, SECOND, AFTER, WIDTH, PLACES};
 ghost use Rattle.rows.specs.Limits.{MAX_ROWS, MAX_DEPTH};
 ghost use Rattle.renderer.specs.Limits.{MAX_MARGIN, BEFORE_ROW};
@@ -19,7 +19,7 @@ use crate::frames::Frames;
 use crate::marks::insert;
 use crate::run::Run;
 use renderer_rules::Frame;
-use rows::kinds::{CALL, GROUP, IF_WRAP, INDENT};
+use rows::kinds::Kind;
 use rows::places::{AFTER, NUMBER, SECOND, SECOND_NUMBER};
 use rows::store::place;
 use rows::units::Columns;
@@ -43,22 +43,23 @@ impl Run {
     }
 
     // A row with parts is opened; `wrap` says whether the part that it is in wraps.
+    // kept: a choice by a kind, which is read from the row, and not among steps that a caller has.
     pub(crate) fn open_row(
         &mut self,
         frames: &mut Frames,
         wrap: bool,
-        kind: usize,
+        kind: Kind,
         store: &[u32],
         marks: &mut [u8],
         max: Columns,
     )
-        requires { Opening store.now max.0 marks.old (with_frames frames.old self.old) × ((wrap ≡ wrap_at frames.old.items frames.old.depth) × ((kind ≡ cell store.now self.old.next KIND) × (WRAP_PARENT ≤ kind → LINE_OR_SPACE < kind))) }
+        requires { Opening store.now max.0 marks.old (with_frames frames.old self.old) × ((wrap ≡ wrap_at frames.old.items frames.old.depth) × ((cell store.now self.old.next KIND ≡ number_of kind) × (WRAP_PARENT ≤ number_of kind → LINE_OR_SPACE < number_of kind))) }
         ensures { (source image out : List ℕ) (limit : ℕ) → Follows limit (enter (view_of store.now) (page_of max.0 source image)) marks.old out (with_frames frames.old self.old) marks.new out (with_frames frames.new self.new) }
     {
         match kind {
-            GROUP => self.enter_group(frames, store, marks, max),
-            CALL => self.enter_call(frames, store, marks, max),
-            IF_WRAP => self.enter_if(frames, wrap, store, marks),
+            Kind::Group => self.enter_group(frames, store, marks, max),
+            Kind::Call => self.enter_call(frames, store, marks, max),
+            Kind::IfWrap => self.enter_if(frames, wrap, store, marks),
             _ => self.enter_indent(frames, wrap, kind),
         }
     }
@@ -83,9 +84,9 @@ impl Run {
     }
 
     // An `Indent` or an `IndentNext` is opened.
-    fn enter_indent(&mut self, frames: &mut Frames, wrap: bool, kind: usize)
-        requires { (frames.old.depth < MAX_DEPTH) × ((self.old.next < MAX_ROWS) × ((self.old.writing.pen.indent + self.old.writing.pen.next_indent ≤ MAX_MARGIN) × ((GROUP < kind) × (kind < WRAP_PARENT)))) }
-        ensures { with_frames frames.new self.new ≡ opened_run (with_frames frames.old self.old) (frame_of self.old.next wrap false false) (self.old.next + 1) (set_pen (cond (eqb kind INDENT) (indent_more wrap self.old.writing.pen) (next_indent_more wrap self.old.writing.pen)) self.old.writing) }
+    fn enter_indent(&mut self, frames: &mut Frames, wrap: bool, kind: Kind)
+        requires { (frames.old.depth < MAX_DEPTH) × ((self.old.next < MAX_ROWS) × ((self.old.writing.pen.indent + self.old.writing.pen.next_indent ≤ MAX_MARGIN) × ((GROUP < number_of kind) × (number_of kind < WRAP_PARENT)))) }
+        ensures { with_frames frames.new self.new ≡ opened_run (with_frames frames.old self.old) (frame_of self.old.next wrap false false) (self.old.next + 1) (set_pen (cond (eqb (number_of kind) INDENT) (indent_more wrap self.old.writing.pen) (next_indent_more wrap self.old.writing.pen)) self.old.writing) }
     {
         let row = self.next;
         let f = Frame {
@@ -95,7 +96,7 @@ impl Run {
             deeper: false,
         };
         self.open(frames, f, row + 1);
-        if kind == INDENT {
+        if matches!(kind, Kind::Indent) {
             self.writing.pen.indent_more(wrap);
         } else {
             self.writing.pen.next_indent_more(wrap);

@@ -11,6 +11,8 @@ use renderer_rules::Pen;
 use rows::units::{Bytes, Columns};
 
 // A text that is being written: the pen, how many bytes are written, and the greatest value that `column` was set to.
+// kept: each method asks for the room that it needs. It is what the rows ahead leave, which only the loop over rows knows, and no value of the
+// type has it for good, so that no invariant says it.
 #[derive(Clone, Copy, Debug, PartialEq, Eq)]
 pub struct Writing {
     pub pen: Pen,

@@ -84,7 +84,8 @@ mutual
   pub render_kept : (n : Node) (pg : Page) (w : Bool) (s : Renderer) → Kept s (render_node pg n w s)
   render_kept (group n ns) pg w s = after (insert_kept n (group_wraps pg ns s) s) (renders_kept ns pg (group_wraps pg ns s) (insert (group_wraps pg ns s) n s))
   render_kept (indent ns) pg w s = in_kept w s (render_nodes pg ns w (on_pen (indent_more w) s)) (renders_kept ns pg w (on_pen (indent_more w) s))
-  render_kept (indent_next ns) pg w s = next_kept w s (render_nodes pg ns w (on_pen (next_indent_more w) s)) (renders_kept ns pg w (on_pen (next_indent_more w) s))
+  render_kept (indent_next ns) pg w s = next_kept w s (render_nodes pg ns w (on_pen (next_indent_more w) s))
+      (renders_kept ns pg w (on_pen (next_indent_more w) s))
   render_kept wrap_parent pg w s = still s
   render_kept (comment_node t) pg w s = comment_kept (pg.bytes t) s
   render_kept (str k t) pg w s = text_kept (pg.bytes t) k s

@@ -139,7 +139,8 @@ module _ (v : View) (pg : Page) (stop : ℕ) where
   pub open_call : (fs : List Frame) (d i : ℕ) (s : Renderer) (t b : Bool) → d < length fs → RangeIn v i (part_limit v stop fs d) → v.kind i ≡ CALL → Split v i
       → t ≡ trailing_call pg (nodes_at v (suc i) (v.second i)) (nodes_at v (v.second i) (v.after i)) s
       → b ≡ callee_wraps pg t (nodes_at v (suc i) (v.second i)) (nodes_at v (v.second i) (v.after i)) s
-      → meaning (set fs d (frame_of i b true (not t && b))) (suc d) (suc i) (on_pen (next_indent_more (not t && b)) (insert b (v.number i) s)) ≡ meaning fs d i s
+      → meaning (set fs d (frame_of i b true (not t && b))) (suc d) (suc i) (on_pen (next_indent_more (not t && b)) (insert b (v.number i) s))
+      ≡ meaning fs d i s
   unfolding closing part_end render_node
   open_call fs d i s t b h w k p e q =
       pushed fs d i (suc i) (frame_of i b true (not t && b)) s (on_pen (next_indent_more (not t && b)) (insert b (v.number i) s)) h refl w

@@ -209,7 +209,8 @@ module _ (q : ℕ → Bool) where
           let f : (x : ℕ) → q x ≡ false → (names x b ≡ false) × (names x c ≡ false) =
           λ x h. neither (names x b) (names x c) (neither (eqb x n) (names x b || names x c) (i x h)).1
           in
-          subst (λ (z : Bool). Alike (cond (wrapped s.marks n) (render_node p b w s) (render_node p c w s)) (cond z (render_node p b w t) (render_node p c w t)))
+          subst (λ (z : Bool). Alike (cond (wrapped s.marks n) (render_node p b w s) (render_node p c w s))
+          (cond z (render_node p b w t) (render_node p c w t)))
           (sym (wrapped_same n s.marks t.marks a.marks (λ h. (neither (eqb n n) (names n b || names n c) (i n h)).0)))
           (cond_alike (wrapped s.marks n) _ _ _ _ (render_alike b w s t (λ x h. (f x h).0) a) (render_alike c w s t (λ x h. (f x h).1) a))
       render_alike (call n e k b) w s t i a =

@@ -96,7 +96,8 @@ uses_width kind = eqb kind STR
 unfoldable pub places_fit : List ℕ → List ℕ → List ℕ → ℕ → Bool
 places_fit source image store i =
     let kind = cell store i KIND in
-    ((uses_number kind || eqb (cell store i NUMBER) 0) && ((uses_number2 kind || eqb (cell store i SECOND_NUMBER) 0) && (uses_second kind || eqb (cell store i SECOND) 0)))
+    ((uses_number kind || eqb (cell store i NUMBER) 0)
+    && ((uses_number2 kind || eqb (cell store i SECOND_NUMBER) 0) && (uses_second kind || eqb (cell store i SECOND) 0)))
     && ((uses_width kind || eqb (cell store i WIDTH) 0) && cond (uses_text kind) (text_fits source image store i) (no_text_fits store i))
 
 -- Refusal 11's place: 0 for a stop past the store or 2,097,152, else the first row from `from` up to `stop` that is not right. (A store has

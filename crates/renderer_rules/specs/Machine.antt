@@ -5,7 +5,8 @@ use Rattle.rows.specs.Kinds.{CALL, case_of}
 use Rattle.rows.specs.Node.{Node, Nodes, group, wrapped}
 use Rattle.rows.specs.View.{View, nodes_at, node_at}
 use Rattle.renderer_rules.specs.declared.Frame.{Frame}
-use Rattle.renderer_rules.specs.Renderer.{Page, Renderer, on_pen, render_node, group_wraps, insert, indent_more, indent_less, next_indent_more, next_indent_less, trailing_call, callee_wraps}
+use Rattle.renderer_rules.specs.Renderer.{Page, Renderer, on_pen, render_node, group_wraps, insert, indent_more, indent_less}
+use Rattle.renderer_rules.specs.Renderer.{next_indent_more, next_indent_less, trailing_call, callee_wraps}
 use Rattle.renderer_rules.specs.Frames.{frame_at, part_end, wrap_at}
 
 -- open rows, how many, the next row, the state, the rows entered

@@ -1,7 +1,8 @@
 -- `Renderer` of fmt.rs: `render_node`, `new_line`, `comment` and `text`.
 use Rattle.std.specs.Prelude.{ℕ, ◌+◌, ◌*◌, ◌-◌, max, Bool, true, false, cond, not, ◌&&◌, ◌||◌, List, [], ◌∷◌, ◌++◌, set, replicate, ltb}
 use Rattle.renderer_rules.specs.declared.Pen.{Pen}
-use Rattle.rows.specs.Node.{Text, Node, Nodes, group, indent, indent_next, wrap_parent, comment as comment_node, str, ascii, line, empty_line, line_or_space, if_wrap, call, none, ◌then◌, wrapped, widths, must_wraps}
+use Rattle.rows.specs.Node.{Text, Node, Nodes, group, indent, indent_next, wrap_parent, comment as comment_node, str, ascii}
+use Rattle.rows.specs.Node.{line, empty_line, line_or_space, if_wrap, call, none, ◌then◌, wrapped, widths, must_wraps}
 
 -- What a rendering goes by: `max`, what an `Ascii` text measures, and the bytes of a text.
 pub record Page : Type 0 where

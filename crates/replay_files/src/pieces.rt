@@ -1,10 +1,10 @@
 // A frame by declarations: a layout call to each stop, a closing one, and a rendering call.
 use crate::frames::Buffers;
 use crate::stored::{Accepted, Stored};
-use file::{REFERENCE_WIDTH, Text};
+use file::{REFERENCE_WIDTH, Text, render_fresh};
 use layout_call::modes::OLD_MODE;
 use layout_call::{Laid, LayoutArgs, LayoutState, layout_call};
-use render_call::{RenderArgs, RenderState, render_call};
+use render_call::{RenderArgs, render_call};
 use rows::units::Columns;
 use stored_answers::difference::{Difference, unless};
 use stored_answers::numbers::{Reader, past};
@@ -17,19 +17,6 @@ const LONGEST: usize = 32768;
 struct Parts<'a> {
     source: &'a [u8],
     image: &'a [u8],
-}
-
-// Nothing is rendered yet.
-// kept: `file` has the same with a promise of its own; lent to a replay as well it would be no plainer.
-fn render_fresh() -> RenderState {
-    RenderState {
-        indent: 0,
-        next_indent: 0,
-        column: Columns(0),
-        in_use: 0,
-        row: 0,
-        width: Columns(0),
-    }
 }
 
 // The source's length in four bytes, the source and the image.

@@ -34,7 +34,8 @@ too_long s b h = rw (lt-leb (length s) MAX_SOURCE h)
 
 long_source : (s b b2 : List ℕ) (t : Tallies) → SOURCE_KEPT < length s → count_answer (take SOURCE_KEPT s) b2 t ≡ count_answer s b t
 long_source s b b2 t h =
-    refused_alike (take SOURCE_KEPT s) b2 s b t (record { reason = reason.SourceTooLong; place = 0 }) (too_long (take SOURCE_KEPT s) b2 (omega (arith, length-take SOURCE_KEPT s)))
+    refused_alike (take SOURCE_KEPT s) b2 s b t (record { reason = reason.SourceTooLong; place = 0 })
+    (too_long (take SOURCE_KEPT s) b2 (omega (arith, length-take SOURCE_KEPT s)))
     (too_long s b (omega arith))
 
 -- ---- an image that is too long

@@ -30,7 +30,8 @@ take_kept n xs = go (dec_le n (length xs))
         ap (λ (k : ℕ). take k xs) e ∙ take_all (length xs) xs (omega arith) ∙ sym (take_all n xs (omega arith))
 
 module _ (lengths source image : List ℕ) (p : Progress) where
-  pub whole_turn : (came : Result (Option ℕ) Cut) {o : Option ℕ} {bytes : ℕ} {r : Turn} (i j : ℕ) → came ≡ Ok o → o ≡ Some bytes → i ≡ min (source_length lengths) (length source) → j ≡ min (image_length lengths) (length image)
+  pub whole_turn : (came : Result (Option ℕ) Cut) {o : Option ℕ} {bytes : ℕ} {r : Turn} (i j : ℕ) → came ≡ Ok o → o ≡ Some bytes
+      → i ≡ min (source_length lengths) (length source) → j ≡ min (image_length lengths) (length image)
       → TakesBy p (answer_to p (take i source) (take j image)) r
       → TakesNext lengths source image p came r
   whole_turn came {r = r} i j e h f g s =

@@ -48,6 +48,7 @@ fn take_files<R: Read>(
     let mut lengths = [0u8; LENGTHS];
     let mut progress = Progress::default();
     let mut came = Ok(None);
+    // kept: the files are counted in what is held; a range would count them a second time.
     while progress.files < FILES {
         came = read_file(input, &mut lengths, source, image);
         let turn = take_next(came, &lengths, source, image, progress);

@@ -6,9 +6,12 @@ use native.Mathlib.Omega.{arith}
 use mathlib.Core.Bool.{true, false}
 use mathlib.Core.List.{List}
 use borrow.Author.Tests.{lt-ltb, le-ltb, le-leb, lt-leb, eq-eqb, ne_eqb}
-use Rattle.rows.specs.Places.{AFTER}
+use Rattle.rows.specs.Places.{KIND, AFTER}
 use Rattle.rows.specs.View.{View, cell, view_of}
-use Rattle.renderer_rules.specs.Check.{reaches}
+use Rattle.std.specs.Prelude.{None}
+use Rattle.rows.specs.Kinds.{kind_of}
+use Rattle.rows.proofs.KindOf.{no_case}
+use Rattle.renderer_rules.specs.Check.{reaches, parts_fit}
 
 -- One row after another.
 reach_next : (l : ℕ) (v : View) (a b n : ℕ) → a < b → n ≡ v.after a → a < n → n ≤ b → reaches (suc l) v a b ≡ reaches l v n b
@@ -59,3 +62,8 @@ module _ (s : List ℕ) (a b steps row : ℕ) (r : Reaching s a b steps row) whe
     reach_on k m =
         some_left (Reaching s a b steps n)
         (λ l q z. record { left = l; low = m; enough = omega arith; same = q ∙ reach_next l (view_of s) row b n h e k m })
+
+-- a row that has no kind has no parts that are right
+pub no_parts : (s : List ℕ) (i : ℕ) → kind_of (cell s i KIND) ≡ None → parts_fit (view_of s) i (cell s i KIND) ≡ false
+unfolding parts_fit
+no_parts s i e = no_case _ (cell s i KIND) e

@@ -1,5 +1,6 @@
 pub mod Decode
 pub mod Flatten
+pub mod KindOf
 pub mod MustWrap
 pub mod Nested
 pub mod OriginText

@@ -1,5 +1,7 @@
 -- The kinds of rows: "kind (0 to 11, `Node`'s order)".
-use Rattle.std.specs.Prelude.{ℕ, [], ◌∷◌, get_or}
+use Rattle.std.specs.Prelude.{ℕ, [], ◌∷◌, get_or, Option, Some, None}
+use Rattle.rows.specs.declared.kinds.Kind.{Kind}
+use Rattle.rows.specs.declared.kinds.Kind.TheVariants as kinds
 
 abbrev pub GROUP : ℕ
 GROUP = 0
@@ -72,3 +74,39 @@ case_of c kind =
     ∷ [])
     kind
     c.no_kind
+
+-- the number of a kind, as it is written in a row
+abbrev pub number_of : Kind → ℕ
+number_of kinds.Group = GROUP
+number_of kinds.Indent = INDENT
+number_of kinds.IndentNext = INDENT_NEXT
+number_of kinds.WrapParent = WRAP_PARENT
+number_of kinds.Comment = COMMENT
+number_of kinds.Str = STR
+number_of kinds.Ascii = ASCII
+number_of kinds.Line = LINE
+number_of kinds.EmptyLine = EMPTY_LINE
+number_of kinds.LineOrSpace = LINE_OR_SPACE
+number_of kinds.IfWrap = IF_WRAP
+number_of kinds.Call = CALL
+
+-- the kind that a number is written for
+abbrev pub kind_of : ℕ → Option Kind
+kind_of n =
+    case_of
+    (record {
+      group = Some kinds.Group;
+      indent = Some kinds.Indent;
+      indent_next = Some kinds.IndentNext;
+      wrap_parent = Some kinds.WrapParent;
+      comment = Some kinds.Comment;
+      str = Some kinds.Str;
+      ascii = Some kinds.Ascii;
+      line = Some kinds.Line;
+      empty_line = Some kinds.EmptyLine;
+      line_or_space = Some kinds.LineOrSpace;
+      if_wrap = Some kinds.IfWrap;
+      call = Some kinds.Call;
+      no_kind = None;
+    })
+    n

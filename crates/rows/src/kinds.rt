@@ -1,24 +1,65 @@
 // The kinds of rows, in the order of `Node`.
-pub const GROUP: usize = 0;
+ghost use Rattle.std.specs.Prelude.{◌≡◌, ◌≤◌};
+ghost use Rattle.rows.specs.Kinds.{CALL, number_of, kind_of};
 
-pub const INDENT: usize = 1;
+#[derive(Clone, Copy, Debug, PartialEq, Eq)]
+pub enum Kind {
+    Group,
+    Indent,
+    IndentNext,
+    WrapParent,
+    Comment,
+    Str,
+    Ascii,
+    Line,
+    EmptyLine,
+    LineOrSpace,
+    IfWrap,
+    Call,
+}
 
-pub const INDENT_NEXT: usize = 2;
+// How many they are.
+const KINDS: usize = 12;
 
-pub const WRAP_PARENT: usize = 3;
+impl Kind {
+    // As it is written in a row.
+    pub fn number(self) -> u32
+        ensures { result ≡ number_of self }
+    {
+        // kept: an enum's number is got by a cast alone; a table of the twelve would say them twice.
+        self as u32
+    }
 
-pub const COMMENT: usize = 4;
+    // The kind of a number that has one.
+    fn known(number: usize) -> Kind
+        requires { number ≤ CALL }
+        ensures { number ≡ number_of result }
+    {
+        match number {
+            0 => Kind::Group,
+            1 => Kind::Indent,
+            2 => Kind::IndentNext,
+            3 => Kind::WrapParent,
+            4 => Kind::Comment,
+            5 => Kind::Str,
+            6 => Kind::Ascii,
+            7 => Kind::Line,
+            8 => Kind::EmptyLine,
+            9 => Kind::LineOrSpace,
+            10 => Kind::IfWrap,
+            _ => Kind::Call,
+        }
+    }
 
-pub const STR: usize = 5;
-
-pub const ASCII: usize = 6;
-
-pub const LINE: usize = 7;
-
-pub const EMPTY_LINE: usize = 8;
-
-pub const LINE_OR_SPACE: usize = 9;
-
-pub const IF_WRAP: usize = 10;
-
-pub const CALL: usize = 11;
+    // The kind of a number, if it has one.
+    #[tactic(auto, using(crate::proofs::KindOf::kind_known, crate::proofs::KindOf::above))]
+    pub fn of(number: usize) -> Option<Kind>
+        ensures { result ≡ kind_of number }
+    {
+        if number < KINDS {
+            Some(Kind::known(number))
+        } else {
+            None
+        }
+    }
+}

@@ -1,10 +1,12 @@
 // The places of a row.
-ghost use Rattle.std.specs.Prelude.{◌≡◌, ◌+◌, ◌*◌, ◌<◌, length};
-ghost use Rattle.rows.specs.Places.{SIZE, WIDTH, PLACES};
+ghost use Rattle.std.specs.Prelude.{◌≡◌, ◌+◌, ◌*◌, ◌≤◌, ◌<◌, length, eqb};
+ghost use Rattle.rows.specs.Kinds.{CALL, number_of, kind_of};
+ghost use Rattle.rows.specs.Places.{KIND, SIZE, WIDTH, PLACES};
 ghost use Rattle.rows.specs.Limits.{CELL_LIMIT};
 ghost use Rattle.rows.specs.View.{cell};
 
-use crate::places::{PLACES, SIZE, WIDTH};
+use crate::kinds::Kind;
+use crate::places::{KIND, PLACES, SIZE, WIDTH};
 use crate::units::{Bytes, Columns};
 
 // Place k of a row.
@@ -15,9 +17,34 @@ pub fn place(store: &[u32], row: usize, k: usize) -> usize
     store[row * PLACES + k] as usize
 }
 
+// The kind of a row, if it has one.
+pub fn row_kind(store: &[u32], row: usize) -> Option<Kind>
+    requires { row * PLACES + KIND < length store.now }
+    ensures { result ≡ kind_of (cell store.now row KIND) }
+{
+    Kind::of(place(store, row, KIND))
+}
+
+// The kind of a row that has one.
+#[tactic(auto, using(crate::proofs::KindOf::is_kind, crate::proofs::KindOf::some_kind))]
+pub fn kind(store: &[u32], row: usize) -> Kind
+    requires { (row * PLACES + KIND < length store.now) × (cell store.now row KIND ≤ CALL) }
+    ensures { cell store.now row KIND ≡ number_of result }
+{
+    row_kind(store, row).unwrap()
+}
+
+// Whether a row is of a kind.
+pub fn has_kind(store: &[u32], row: usize, kind: Kind) -> bool
+    requires { row * PLACES + KIND < length store.now }
+    ensures { result ≡ eqb (cell store.now row KIND) (number_of kind) }
+{
+    place(store, row, KIND) == kind.number() as usize
+}
+
 // The length of a row's text.
 pub fn text_size(store: &[u32], row: usize) -> Bytes
-    requires { row * PLACES + WIDTH < length store.now }
+    requires { row * PLACES + SIZE < length store.now }
     ensures { (result.0 ≡ cell store.now row SIZE) × (result.0 < CELL_LIMIT) }
 {
     Bytes(place(store, row, SIZE))
@@ -29,11 +56,4 @@ pub fn str_width(store: &[u32], row: usize) -> Columns
     ensures { (result.0 ≡ cell store.now row WIDTH) × (result.0 < CELL_LIMIT) }
 {
     Columns(place(store, row, WIDTH))
-}
-
-// What is kept in a place, as an index.
-pub fn to_usize(x: u32) -> usize
-    ensures { result ≡ x }
-{
-    x as usize
 }

@@ -4,9 +4,9 @@ ghost use Rattle.rows.specs.Node.{wrapped, must_wraps};
 ghost use Rattle.rows.specs.View.{view_of, nodes_at};
 ghost use Rattle.rows.specs.Nesting.{Nested};
 
-use crate::kinds::{COMMENT, INDENT, WRAP_PARENT};
-use crate::places::{AFTER, KIND};
-use crate::store::place;
+use crate::kinds::Kind;
+use crate::places::AFTER;
+use crate::store::{has_kind, place};
 
 // Whether a row from `from` up to `to`, or one in an `Indent` there, wraps what encloses it.
 // kept: the next row is one on or behind a part, so that no range has the rows.
@@ -16,11 +16,10 @@ pub fn must_wrap(store: &[u32], from: usize, to: usize) -> bool
 {
     let mut row = from;
     while row < to {
-        let kind = place(store, row, KIND);
-        if kind == WRAP_PARENT || kind == COMMENT {
+        if has_kind(store, row, Kind::WrapParent) || has_kind(store, row, Kind::Comment) {
             return true;
         }
-        if kind == INDENT {
+        if has_kind(store, row, Kind::Indent) {
             row += 1;
         } else {
             row = place(store, row, AFTER);

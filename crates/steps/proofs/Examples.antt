@@ -9,7 +9,8 @@ use Rattle.text.specs.Utf8.{within, row_in, followed, sequence, run, prefix, wel
 use Rattle.text.specs.Newlines.{is_range}
 use Rattle.image.specs.Bytes.{be16, be32}
 use Rattle.image.specs.Grammar.{row_of, row_under_of, kind_fits_of, payload_fits, first_child}
-use Rattle.image.specs.Read.{bad, header, comment_fits, comments, shape, opens, children_at, skips, record_at, tree_at, read_tree, read_image, source_fits, read_all}
+use Rattle.image.specs.Read.{bad, header, comment_fits, comments, shape, opens, children_at, skips}
+use Rattle.image.specs.Read.{record_at, tree_at, read_tree, read_image, source_fits, read_all}
 use Rattle.image.specs.Read as Reader
 use Rattle.image.specs.Write.{written, plain}
 use Rattle.tree.specs.CommentList.{pairs_at, comments_of}
@@ -33,12 +34,14 @@ shebang_steps =
 
 -- the image is written, and no byte after it; it gives the steps again
 shebang_written : writer_output shebang_steps (replicate 40 9) ≡ shebang ++ 9 ∷ []
-unfolding shebang shebang_steps contents_from comments_from record_from opened_from payload_from children_from step_from written kind_fits_of row_under_of row_of be16 be32
+unfolding shebang shebang_steps contents_from comments_from record_from opened_from payload_from children_from step_from written
+    kind_fits_of row_under_of row_of be16 be32
     well_formed prefix run within sequence followed row_in
 shebang_written = refl
 
 shebang_steps_lem : steps_due [] shebang ≡ shebang_steps
-unfolding shebang shebang_steps read_all source_fits read_image header comments Reader.comments_from comment_fits read_tree tree_at record_at opens shape kind_fits_of
+unfolding shebang shebang_steps read_all source_fits read_image header comments Reader.comments_from comment_fits read_tree tree_at
+    record_at opens shape kind_fits_of
     payload_fits first_child row_under_of row_of children_at skips be16 be32 is_range boundary well_formed prefix run within sequence followed row_in plain
     tree_steps comments_of pairs_at
 shebang_steps_lem = refl
@@ -147,7 +150,8 @@ wrong =
     []
 
 examples_right : given (right ++ wrong) ≡ due (right ++ wrong)
-unfolding right wrong shebang_steps opening tree name constant literal assigns imports contents_from comments_from record_from opened_from payload_from children_from
+unfolding right wrong shebang_steps opening tree name constant literal assigns imports contents_from comments_from record_from opened_from
+    payload_from children_from
     step_from written kind_fits_of row_under_of row_of be16 be32 well_formed prefix run within sequence followed row_in
 examples_right = refl
 

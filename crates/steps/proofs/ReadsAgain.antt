@@ -13,7 +13,8 @@ use Rattle.text.specs.Newlines.{is_range}
 use Rattle.image.specs.Bytes.{be32, part}
 use Rattle.image.specs.Kinds.{TEXT}
 use Rattle.image.specs.Grammar.{is_optional, is_list, bare, place, after, top_byte, payload_fits, first_child, row_of, row_under_of, kind_fits_of}
-use Rattle.image.specs.Read.{Read, got, bad, bind, Head, head_at, kind_at, stop_at, Tree, Trees, absent, node, ◌▸◌, opens, skips, child_at, record_at, children_at}
+use Rattle.image.specs.Read.{Read, got, bad, bind, Head, head_at, kind_at, stop_at, Tree, Trees}
+use Rattle.image.specs.Read.{absent, node, ◌▸◌, opens, skips, child_at, record_at, children_at}
 use Rattle.image.specs.Write.{Plain, Plains, without, plainly, ◌next◌, bytes4, content, framed, written, writtens, plain, plains}
 use Rattle.image.proofs.Shapes.{Shaped, is_shaped, kind_list}
 use Rattle.image.proofs.Reading.{record_bad, record_opens, within, ended}

@@ -13,7 +13,8 @@ use Rattle.image.specs.Limits.{MAX_COMMENTS, MAX_RECORDS_DEEP}
 use Rattle.image.specs.Read.{got, bind}
 use Rattle.ast.specs.Syntax.{Span}
 use Rattle.tree.specs.CommentList.{span}
-use Rattle.steps.specs.Steps.{Step, comment_step, open_step, text_step, payload_step, absent_step, close_step, step_bytes, list_bytes, tree_steps, Contents, steps}
+use Rattle.steps.specs.Steps.{Step, comment_step, open_step, text_step, payload_step, absent_step}
+use Rattle.steps.specs.Steps.{close_step, step_bytes, list_bytes, tree_steps, Contents, steps}
 use Rattle.steps.specs.Steps.{COMMENT_STEP}
 use Rattle.steps.specs.Writer.{step_from, pair_by, comments_from, record_from, contents_from}
 use Rattle.steps.specs.Exact.{Bytes}

@@ -38,6 +38,7 @@ impl Stored for u32 {
 }
 
 /// Fills a buffer with what comes next.
+#[tactic(auto, using(crate::proofs::Listing::filling_start, crate::proofs::Listing::filling_end))]
 pub fn fill<T: Stored>(b: &mut [T], answers: &mut Reader)
     ensures { b.new ≡ listed (T.stored answers.old.answers.now) T.width (length b.old) answers.old.place }
 {
@@ -47,6 +48,7 @@ pub fn fill<T: Stored>(b: &mut [T], answers: &mut Reader)
 }
 
 /// Whether what comes next is what a buffer holds.
+#[tactic(auto, using(crate::proofs::Listing::agreeing_more, crate::proofs::Listing::agreeing_not, crate::proofs::Listing::agreeing_end))]
 pub fn is_next<T: Stored + PartialEq>(b: &[T], answers: &Reader) -> bool
     ensures { result ≡ agree T.eq (T.stored answers.now.answers.now) T.width b.now answers.now.place }
 {

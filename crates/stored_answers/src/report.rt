@@ -43,6 +43,7 @@ pub fn replay<P: Print, F: FnMut(&mut Reader) -> Result<(), Difference>>(
     let mut reader = Reader { answers, place: 0 };
     let mut cases = 0;
     let mut differ = 0;
+    // kept: where the next case starts is known only once this one is read.
     while reader.place < answers.len() {
         let from = reader.place;
         let found = case(&mut reader);

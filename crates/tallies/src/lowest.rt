@@ -5,6 +5,7 @@ ghost use Rattle.tallies.specs.Fraction.{common_divisor, reduced};
 use crate::Fraction;
 
 // The greatest number that divides both, by Euclid's steps.
+// kept: each step's numbers are made of the last one's, so that no range has them.
 #[tactic(auto, using(crate::proofs::Divisor::at_end, crate::proofs::Divisor::keeps))]
 fn common_divisor(mut a: usize, mut b: usize) -> usize
     ensures { result ≡ common_divisor a b }

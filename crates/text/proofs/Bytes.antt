@@ -24,7 +24,8 @@ unfolding sequence
 led s at = go (ltb at (length s)) refl (followed s at (row_of (get_or s at 0))) refl
   where
     go :
-        (t : Bool) → ltb at (length s) ≡ t → (u : Bool) → followed s at (row_of (get_or s at 0)) ≡ u → 0 < cond (t && u) (row_of (get_or s at 0)).bytes 0 → Led s at
+        (t : Bool) → ltb at (length s) ≡ t → (u : Bool) → followed s at (row_of (get_or s at 0)) ≡ u
+        → 0 < cond (t && u) (row_of (get_or s at 0)).bytes 0 → Led s at
     go true e true f h = record { inside = ltb-true at (length s) e; follows = f; has = simp (e, f) }
     go true e false f h = absurd (omega arith)
     go false e true f h = absurd (omega arith)

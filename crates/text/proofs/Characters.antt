@@ -3,6 +3,7 @@
 use mathlib.Core.Path.{◌≡◌, refl, sym, ap, ◌∙◌}
 use mathlib.Core.Bool.{Bool, true, false, cond}
 use mathlib.Core.List.{List}
+use mathlib.Core.Logic.{◌⊎◌, inl, inr}
 use Prim.Native.Nat.{ℕ, zero, suc, ◌+◌, ◌-◌, ◌≤◌, ◌<◌}
 use native.Mathlib.Omega.{arith}
 use lib.ListN.{length}
@@ -105,12 +106,28 @@ ending_empty s from to h =
 pub before_empty : (s : List ℕ) (from to : ℕ) → to ≤ from → char_before s from to ≡ None
 before_empty s from to h = sym (before_decoded s from to 0 None (sym (ending_empty s from to h)) (decoded_none s (to - 0) 0 refl))
 
+-- nor in what is no range of the text
+pub before_outside : (s : List ℕ) (from to : ℕ) → (to < from) ⊎ (length s < to) → char_before s from to ≡ None
+before_outside s from to h = go (ending s from to) refl
+  where
+    none : {A : Type 0} → (to < from) ⊎ (length s < to) → from ≤ to → to ≤ length s → A
+    none (inl f) p q = absurd (omega arith)
+    none (inr f) p q = absurd (omega arith)
+
+    go : (n : ℕ) → ending s from to ≡ n → char_before s from to ≡ None
+    go zero e = sym (before_decoded s from to 0 None (sym e) (decoded_none s (to - 0) 0 refl))
+    go (suc n) e =
+        let fits = ending_fits s from to (omega arith) in
+        let inside = sequence_inside s (to - ending s from to) (omega arith) in
+        none h (omega (arith, fits.0)) (omega arith)
+
 -- a character has the bytes that were decoded, and not none
 pub decoded_is : (s : List ℕ) (at k : ℕ) (c : Char) → decoded s at k ≡ Some c → (c.bytes ≡ k) × (0 < k) × (c.code ≡ scalar s at k)
 unfolding decoded
 decoded_is s at k c = go (eqb k 0) refl
   where
-    go : (t : Bool) → eqb k 0 ≡ t → cond t None (Some (record { code = scalar s at k; bytes = k })) ≡ Some c → (c.bytes ≡ k) × (0 < k) × (c.code ≡ scalar s at k)
+    go : (t : Bool) → eqb k 0 ≡ t → cond t None (Some (record { code = scalar s at k; bytes = k })) ≡ Some c
+        → (c.bytes ≡ k) × (0 < k) × (c.code ≡ scalar s at k)
     go true q e = let z : ◌≡◌ {A = ℕ} 0 1 = cc in absurd (omega arith)
     go false q e = (cc, omega (arith, eqb-false k 0 q), cc)
 
@@ -121,7 +138,8 @@ at_inside s at c e =
     let inside = sequence_inside s at d.1 in
     (omega arith, omega arith, d.0)
 
-pub before_inside : (s : List ℕ) (from to : ℕ) (c : Char) → char_before s from to ≡ Some c → (0 < c.bytes) × (from + c.bytes ≤ to) × (c.bytes ≡ ending s from to)
+pub before_inside : (s : List ℕ) (from to : ℕ) (c : Char) → char_before s from to ≡ Some c
+    → (0 < c.bytes) × (from + c.bytes ≤ to) × (c.bytes ≡ ending s from to)
 unfolding char_before
 before_inside s from to c e =
     let d = decoded_is s (to - ending s from to) (ending s from to) c e in

@@ -36,6 +36,7 @@ count_before_end s from to stop h =
 abbrev accent : List ℕ
 accent = 0xC3 ∷ 0xA9 ∷ 0x0A ∷ []
 
-accent_ends : (well_formed accent ≡ true) × (ending accent 0 2 ≡ 2) × (count_newlines accent 2 3 ≡ counted 3 (2 ∷ [])) × (count_newlines accent 1 3 ≡ counted 3 [])
+accent_ends : (well_formed accent ≡ true) × (ending accent 0 2 ≡ 2)
+    × (count_newlines accent 2 3 ≡ counted 3 (2 ∷ [])) × (count_newlines accent 1 3 ≡ counted 3 [])
 unfolding well_formed prefix run sequence followed row_in within ending ends count_newlines is_range boundary newline_places
 accent_ends = (refl, refl, refl, refl)

@@ -5,22 +5,34 @@ use mathlib.Core.Bool.{Bool, true, false}
 use mathlib.Core.List.{List}
 use Prim.Native.Nat.{ℕ, zero, suc, ◌+◌, ◌-◌, ◌≤◌, ◌<◌}
 use native.Mathlib.Omega.{arith}
-use native.Mathlib.Nat.{add-zero, add_assoc}
+use native.Mathlib.Nat.{add-zero, zero-add, add_assoc}
 use lib.ListN.{length, get_or, take, drop, length-take, length-drop}
 use lib.Seq.{get_or-take, get_or-drop}
-use lib.Dec.{ltb}
-use borrow.Author.Tests.{ltb-true, ltb-false, le-leb}
-use Rattle.text.specs.Utf8.{sequence, well_formed, boundary}
+use lib.Dec.{ltb, leb, eqb}
+use borrow.Author.Tests.{ltb-true, ltb-false, le-leb, lt-leb, leb-true, leb-false, eq-eqb, ne_eqb, eqb-true, eqb-false}
+use Rattle.text.specs.Utf8.{sequence, well_formed, boundary, scalar, decoded, ends, ending, char_before}
 use Rattle.text.specs.Newlines.{is_range}
 use Rattle.text.proofs.Boundaries.{end_boundary, sequence_before}
 use Rattle.text.proofs.Bytes.{sequence_same}
-use Rattle.text.proofs.Characters.{sequence_inside}
+use Rattle.text.proofs.Characters.{sequence_inside, decoded_char, ending_fits}
 use Rattle.text.proofs.Counts.{range_order, range_start, range_end, range_inside}
 use Rattle.text.proofs.Reached.{Reach, here, on, boundary_iff, well_formed_reached}
 
 -- the n bytes from a on
 abbrev pub part : List ℕ → ℕ → ℕ → List ℕ
 part s a n = take n (drop a s)
+
+-- the bytes of a sequence at another place have the same code point
+scalar_same : (s t : List ℕ) (i j n : ℕ) → 0 < n → ((k : ℕ) → k < n → get_or s (i + k) 0 ≡ get_or t (j + k) 0) → scalar s i n ≡ scalar t j n
+unfolding scalar
+scalar_same s t i j n h f = go n h f (rw (add-zero i, add-zero j) at (f 0 h))
+  where
+    go : (n : ℕ) → 0 < n → ((k : ℕ) → k < n → get_or s (i + k) 0 ≡ get_or t (j + k) 0) → get_or s i 0 ≡ get_or t j 0 → scalar s i n ≡ scalar t j n
+    go zero h f e = absurd (omega arith)
+    go (suc zero) h f e = e
+    go (suc (suc zero)) h f e = rw (e, f 1 (omega arith))
+    go (suc (suc (suc zero))) h f e = rw (e, f 1 (omega arith), f 2 (omega arith))
+    go (suc (suc (suc (suc n)))) h f e = rw (e, f 1 (omega arith), f 2 (omega arith), f 3 (omega arith))
 
 module _ (s : List ℕ) (a n : ℕ) (fits : a + n ≤ length s) where
   pub part_length : length (part s a n) ≡ n
@@ -47,6 +59,47 @@ module _ (s : List ℕ) (a n : ℕ) (fits : a + n ≤ length s) where
       go (suc i) p zero q =
           sequence_same s (part s a n) (a + at) at (omega arith) (omega (arith, part_length))
           (λ k q. ap (λ i. get_or s i 0) (add_assoc a at k) ∙ sym (part_byte (at + k) (omega arith)))
+
+  -- a sequence ends the part where it ends the range
+  ends_part : (k : ℕ) → 0 < k → ends (part s a n) 0 n k ≡ ends s a (a + n) k
+  unfolding ends
+  ends_part k h = go (leb k n) refl
+    where
+      place : k ≤ n → a + n - k ≡ a + (n - k)
+      place q = omega arith
+
+      same : k ≤ n → (t : Bool) → eqb (sequence (part s a n) (n - k)) k ≡ t → t ≡ eqb (sequence s (a + (n - k))) k
+      same q true e =
+          let there = eqb-true (sequence (part s a n) (n - k)) k e in
+          sym (eq-eqb (sequence s (a + (n - k))) k (sequence_up (n - k) (omega arith) ∙ there))
+      same q false e =
+          sym (ne_eqb (sequence s (a + (n - k))) k
+          (λ f. eqb-false (sequence (part s a n) (n - k)) k e (sequence_down (n - k) (omega arith) (omega arith) ∙ f)))
+
+      go : (t : Bool) → leb k n ≡ t → ends (part s a n) 0 n k ≡ ends s a (a + n) k
+      go true e =
+          let q = leb-true k n e in
+          simp (zero-add k, e, le-leb (a + k) (a + n) (omega arith), place q) (same q _ refl)
+      go false e = let q = leb-false k n e in simp (zero-add k, e, lt-leb (a + k) (a + n) (omega arith))
+
+  ending_part : ending (part s a n) 0 n ≡ ending s a (a + n)
+  unfolding ending
+  ending_part = rw (ends_part 1 (omega arith), ends_part 2 (omega arith), ends_part 3 (omega arith), ends_part 4 (omega arith))
+
+  -- the part's last character is the range's
+  pub before_part : char_before (part s a n) 0 n ≡ char_before s a (a + n)
+  unfolding char_before decoded
+  before_part = rw ending_part (go (ending s a (a + n)) refl)
+    where
+      go : (e : ℕ) → ending s a (a + n) ≡ e → decoded (part s a n) (n - e) e ≡ decoded s (a + n - e) e
+      go zero q = refl
+      go (suc e) q =
+          let fits = ending_fits s a (a + n) (omega arith) in
+          let place : a + n - suc e ≡ a + (n - suc e) = omega arith in
+          sym (decoded_char (part s a n) (n - suc e) (suc e) _ (omega arith) refl)
+          ∙ decoded_char s (a + n - suc e) (suc e) _ (omega arith)
+          (rw place (scalar_same (part s a n) s (n - suc e) (a + (n - suc e)) (suc e) (omega arith)
+          (λ k h. part_byte (n - suc e + k) (omega arith) ∙ ap (λ i. get_or s i 0) (sym (add_assoc a (n - suc e) k)))))
 
   -- what the part reaches, the text reaches
   pub reach_up : (k : ℕ) → Reach s a → Reach (part s a n) k → Reach s (a + k)

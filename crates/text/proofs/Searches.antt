@@ -59,4 +59,6 @@ search_past s at h = sym (seek_nothing s at at (none_at_end s at h) (seek_start 
 -- a byte 0x0A is the character U+000A
 pub newline_at : (s : List ℕ) (at : ℕ) → at < length s → get_or s at 0 ≡ 0x0A → char_at s at ≡ Some (record { code = 0x0A; bytes = 1 })
 unfolding scalar
-newline_at s at h e = sym (at_decoded s at 1 (Some (record { code = 0x0A; bytes = 1 })) (sym (ascii s at h (omega arith))) (decoded_char s at 1 0x0A (omega arith) (sym e)))
+newline_at s at h e =
+    sym (at_decoded s at 1 (Some (record { code = 0x0A; bytes = 1 }))
+    (sym (ascii s at h (omega arith))) (decoded_char s at 1 0x0A (omega arith) (sym e)))

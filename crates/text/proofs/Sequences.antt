@@ -176,7 +176,8 @@ module _ (s : List ℕ) (at b : ℕ) (inside : at < length s) (first : b ≡ get
         go true = refl
         go false = refl
 
-    pub sequence_three : (row_of b).bytes ≡ 3 → t ≡ (second b (get_or s (at + 1) 0) && continues (get_or s (at + 2) 0)) → then_some t 3 ≡ some_bytes (sequence s at)
+    pub sequence_three : (row_of b).bytes ≡ 3 → t ≡ (second b (get_or s (at + 1) 0) && continues (get_or s (at + 2) 0))
+        → then_some t 3 ≡ some_bytes (sequence s at)
     unfolding followed
     sequence_three e f = rw (by_row 3 e, e, f) (go (second b (get_or s (at + 1) 0)) (continues (get_or s (at + 2) 0)))
       where

@@ -1,16 +1,19 @@
 -- Laws of `trim` and `seek`: a range walked from its end, a text walked from a place.
 -- Assumes nothing.
-use mathlib.Core.Path.{◌≡◌, refl, sym, ◌∙◌}
+use mathlib.Core.Path.{◌≡◌, refl, sym, ap, ◌∙◌}
 use mathlib.Core.Bool.{true, false}
 use mathlib.Core.List.{List}
+use mathlib.Core.Logic.{◌⊎◌}
 use Prim.Native.Nat.{ℕ, zero, suc, ◌+◌, ◌-◌, ◌≤◌, ◌<◌}
 use native.Mathlib.Omega.{arith}
-use lib.ListN.{length}
+use lib.ListN.{length, take, drop, length-take}
+use lib.Seq.{take-take}
 use Rattle.text.specs.Utf8.{char_at, char_before}
 use Rattle.text.specs.Space.{is_white, trim, trim_end, is_passed, seek, something}
 use Rattle.text.specs.declared.utf8.Char.{Char}
 use Rattle.std.specs.Prelude.{None, Some}
-use Rattle.text.proofs.Characters.{at_inside, before_inside}
+use Rattle.text.proofs.Characters.{at_inside, before_inside, before_outside}
+use Rattle.text.proofs.Parts.{part, part_length, before_part}
 
 -- `trim_end` is found by going on from `end`
 pub record Trimming (s : List ℕ) (from to end : ℕ) : Type 0 where
@@ -22,7 +25,8 @@ pub trim_start : (s : List ℕ) (from to : ℕ) → Trimming s from to to
 unfolding trim_end
 trim_start s from to = record { turns = to - from; enough = omega arith; same = refl }
 
-trim_on : (m : ℕ) (s : List ℕ) (from to : ℕ) (c : Char) → char_before s from to ≡ Some c → is_white c.code ≡ true → trim (suc m) s from to ≡ trim m s from (to - c.bytes)
+trim_on : (m : ℕ) (s : List ℕ) (from to : ℕ) (c : Char) → char_before s from to ≡ Some c
+    → is_white c.code ≡ true → trim (suc m) s from to ≡ trim m s from (to - c.bytes)
 unfolding trim
 trim_on m s from to c e w = rw (e, trim) (rw w)
 
@@ -49,8 +53,58 @@ stop_at_text (suc m) s from to c e w = rw (e, trim) (rw w)
 pub trim_nothing : (s : List ℕ) (from to end : ℕ) → char_before s from end ≡ None → Trimming s from to end → end ≡ trim_end s from to
 trim_nothing s from to end e g = sym (g.same ∙ stop_at_nothing g.turns s from end e)
 
-pub trim_text : (s : List ℕ) (from to end : ℕ) (c : Char) → char_before s from end ≡ Some c → is_white c.code ≡ false → Trimming s from to end → end ≡ trim_end s from to
+pub trim_text : (s : List ℕ) (from to end : ℕ) (c : Char) → char_before s from end ≡ Some c
+    → is_white c.code ≡ false → Trimming s from to end → end ≡ trim_end s from to
 trim_text s from to end c e w g = sym (g.same ∙ stop_at_text g.turns s from end c e w)
+
+-- what is left of the range while it is trimmed, and that its end is gone on from
+pub record Left (s : List ℕ) (from to : ℕ) (text : List ℕ) : Type 0 where
+  pub inside : from + length text ≤ length s
+  pub same : text ≡ part s from (length text)
+  pub goes : Trimming s from to (from + length text)
+
+pub left_start : (s : List ℕ) (from to : ℕ) → from ≤ to → to ≤ length s → Left s from to (part s from (to - from))
+left_start s from to h k =
+    let size = part_length s from (to - from) (omega arith) in
+    let end : from + length (part s from (to - from)) ≡ to = omega arith in
+    record { inside = omega arith; same = ap (part s from) (sym size); goes = rw end (trim_start s from to) }
+
+-- its last character is the range's
+left_before : {s text : List ℕ} {from to : ℕ} → Left s from to text → char_before text 0 (length text) ≡ char_before s from (from + length text)
+left_before {s} {text} {from} {to} l = ap (λ (t : List ℕ). char_before t 0 (length text)) l.same ∙ before_part s from (length text) l.inside
+
+pub left_smaller : (text : List ℕ) (c : Char) → char_before text 0 (length text) ≡ Some c → length (take (length text - c.bytes) text) < length text
+left_smaller text c e = let some = before_inside text 0 (length text) c e in rw length-take (omega (arith, some.0, some.1))
+
+pub left_next :
+    (s : List ℕ) (from to : ℕ) (text : List ℕ) (c : Char) → char_before text 0 (length text) ≡ Some c → is_white c.code ≡ true
+    → Left s from to text → Left s from to (take (length text - c.bytes) text)
+left_next s from to text c e w l =
+    let some = before_inside text 0 (length text) c e in
+    let size : length (take (length text - c.bytes) text) ≡ length text - c.bytes = simp length-take (omega arith) in
+    let end : from + length (take (length text - c.bytes) text) ≡ from + length text - c.bytes = omega (arith, some.0, some.1) in
+    record {
+      inside = omega (arith, l.inside);
+      same =
+          ap (take (length text - c.bytes)) l.same
+          ∙ take-take (length text - c.bytes) (length text) (drop from s) (omega arith)
+          ∙ ap (part s from) (sym size);
+      goes = rw end (trim_next s from to (from + length text) c (omega (arith, some.0, some.1)) (sym (left_before l) ∙ e) w l.goes);
+    }
+
+pub left_nothing :
+    (s : List ℕ) (from to : ℕ) (text : List ℕ) → char_before text 0 (length text) ≡ None → Left s from to text
+    → from + length text ≡ trim_end s from to
+left_nothing s from to text e l = trim_nothing s from to (from + length text) (sym (left_before l) ∙ e) l.goes
+
+pub left_text :
+    (s : List ℕ) (from to : ℕ) (text : List ℕ) (c : Char) → char_before text 0 (length text) ≡ Some c → is_white c.code ≡ false
+    → Left s from to text → from + length text ≡ trim_end s from to
+left_text s from to text c e w l = trim_text s from to (from + length text) c (sym (left_before l) ∙ e) w l.goes
+
+-- nothing is trimmed where there is no range
+pub left_none : (s : List ℕ) (from to : ℕ) → (to < from) ⊎ (length s < to) → to ≡ trim_end s from to
+left_none s from to h = trim_nothing s from to to (before_outside s from to h) (trim_start s from to)
 
 -- `something` is found by going on from `here`
 pub record Seeking (s : List ℕ) (at here : ℕ) : Type 0 where
@@ -66,7 +120,8 @@ seek_on : (m : ℕ) (s : List ℕ) (at : ℕ) (c : Char) → char_at s at ≡ So
 unfolding seek
 seek_on m s at c e w = rw (e, seek) (rw w)
 
-pub seek_next : (s : List ℕ) (at here : ℕ) (c : Char) → here < length s → char_at s here ≡ Some c → is_passed c.code ≡ true → Seeking s at here → Seeking s at (here + c.bytes)
+pub seek_next : (s : List ℕ) (at here : ℕ) (c : Char) → here < length s → char_at s here ≡ Some c
+    → is_passed c.code ≡ true → Seeking s at here → Seeking s at (here + c.bytes)
 seek_next s at here c h e w g = go g.turns g.enough g.same
   where
     go : (m : ℕ) → length s ≤ here + m → something s at ≡ seek m s here → Seeking s at (here + c.bytes)
@@ -77,7 +132,8 @@ found_at : (m : ℕ) (s : List ℕ) (at : ℕ) (c : Char) → char_at s at ≡ S
 unfolding seek
 found_at m s at c e w = rw (e, seek) (rw w)
 
-pub seek_found : (s : List ℕ) (at here : ℕ) (c : Char) → here < length s → char_at s here ≡ Some c → is_passed c.code ≡ false → Seeking s at here → Some here ≡ something s at
+pub seek_found : (s : List ℕ) (at here : ℕ) (c : Char) → here < length s → char_at s here ≡ Some c
+    → is_passed c.code ≡ false → Seeking s at here → Some here ≡ something s at
 seek_found s at here c h e w g = go g.turns g.enough g.same
   where
     go : (m : ℕ) → length s ≤ here + m → something s at ≡ seek m s here → Some here ≡ something s at

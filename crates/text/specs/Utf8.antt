@@ -1,6 +1,7 @@
 -- Well-formed UTF-8, after the Unicode Standard, section 3.9. A text is a list of bytes, and a place in it counts bytes from its start.
 -- A byte past the end reads as 0, which continues no sequence.
-use Rattle.std.specs.Prelude.{ℕ, zero, suc, ◌+◌, ◌*◌, ◌-◌, ◌/◌, ◌%◌, List, [], ◌∷◌, Bool, cond, not, ◌&&◌, ◌||◌, length, get_or, ltb, leb, eqb, Option, None, Some}
+use Rattle.std.specs.Prelude.{ℕ, zero, suc, ◌+◌, ◌*◌, ◌-◌, ◌/◌, ◌%◌, List, [], ◌∷◌, Bool, cond}
+use Rattle.std.specs.Prelude.{not, ◌&&◌, ◌||◌, length, get_or, ltb, leb, eqb, Option, None, Some}
 use Rattle.refusals.specs.Refusals.{Refusal, refuse_if}
 use Rattle.text.specs.declared.utf8.Char.{Char}
 

@@ -12,6 +12,7 @@ pub struct Newlines {
 }
 
 // Whether a range is not reversed and has its ends on boundaries of the text.
+// kept: the range is a caller's, and may be any two numbers: there is no slice of it before this is asked.
 #[tactic(auto, using(std::proofs::lemmas::Bool::Decides::nat_tests), unfolding(crate::specs::Newlines::is_range))]
 pub fn is_range(s: &[u8], from: usize, to: usize) -> bool
     ensures { result ≡ is_range s.now from to }
@@ -20,6 +21,8 @@ pub fn is_range(s: &[u8], from: usize, to: usize) -> bool
 }
 
 // The newlines of a range; none where it is outside the text, reversed or off a boundary.
+// kept: as above, the range is a caller's, and may be no part of the text.
+#[tactic(auto, using(crate::proofs::Counts::range_inside), unfolding(crate::specs::Newlines::count_newlines))]
 pub fn count_newlines(s: &[u8], from: usize, to: usize) -> Newlines
     ensures { result ≡ count_newlines s.now from to }
 {
@@ -32,6 +35,7 @@ pub fn count_newlines(s: &[u8], from: usize, to: usize) -> Newlines
     }
 }
 
+// kept: the place is one in the text, so that a slice of the range would need to be told where it starts.
 fn newlines_between(s: &[u8], from: usize, to: usize) -> Newlines
     requires { (from ≤ to) × (to ≤ length s.now) }
     ensures { result ≡ counted to (newline_places (to - from) s.now from) }

@@ -1,7 +1,8 @@
 // Well-formed UTF-8: sequences, the check of a text, boundaries, characters.
 ghost use Rattle.std.specs.Prelude.{◌≡◌, ◌+◌, ◌≤◌, ◌<◌, length, get_or};
 ghost use Rattle.refusals.specs.Reasons.{refusal_in};
-ghost use Rattle.text.specs.Utf8.{row_of, within, continues, sequence, highs, plain, stride, some_bytes, ill_formed, boundary, scalar, char_at, ends, ending, char_before};
+ghost use Rattle.text.specs.Utf8.{row_of, within, continues, sequence, highs, plain, stride, some_bytes, ill_formed};
+ghost use Rattle.text.specs.Utf8.{boundary, scalar, char_at, ends, ending, char_before};
 
 use refusals::{Reason, Refused};
 
@@ -27,6 +28,7 @@ fn is_continuation(b: u8) -> bool
 }
 
 // Whether b comes second in some sequence of two bytes or more that starts with `first`, by table 3-7 of the Unicode Standard.
+#[inline(always)]
 #[tactic(auto, using(std::proofs::lemmas::Bool::Decides::nat_tests), unfolding(crate::specs::Utf8::row_in, crate::specs::Utf8::within))]
 fn is_second(first: u8, b: u8) -> bool
     requires { 1 < (row_of first).bytes }
@@ -41,7 +43,10 @@ fn is_second(first: u8, b: u8) -> bool
     }
 }
 
-// How many bytes the sequence that starts at `at` has, if one does.
+// How many bytes the sequence that starts at `at` has, if one does. It is made part of its callers: called, it makes a search half as long again
+// where it passes ASCII, and the check by two thirds where a wide character stands here and there.
+#[inline(always)]
+#[tactic(auto, using(crate::proofs::Sequences::row_two, crate::proofs::Sequences::row_three, crate::proofs::Sequences::row_four))]
 fn sequence(s: &[u8], at: usize) -> Option<usize>
     ensures { result ≡ some_bytes (sequence s.now at) }
 {
@@ -59,6 +64,7 @@ fn sequence(s: &[u8], at: usize) -> Option<usize>
 }
 
 // How many of the sixteen bytes from `at` on are 0x80 or above.
+#[tactic(auto, using(crate::proofs::Runs::highs_more), unfolding(crate::specs::Utf8::highs))]
 fn count_high(s: &[u8], at: usize) -> u8
     requires { at + 16 ≤ length s.now }
     ensures { result ≡ highs 16 s.now at }
@@ -80,6 +86,7 @@ fn is_plain(s: &[u8], at: usize) -> bool
 
 // How far the check goes on from `at`: sixteen bytes, or the bytes of a sequence if one starts there. Sixteen together are looked at only at
 // each sixteenth byte, so that a text where few are together takes little longer.
+#[tactic(auto, using(crate::proofs::Runs::stride_odd, crate::proofs::Runs::stride_plain, crate::proofs::Runs::stride_one))]
 fn stride(s: &[u8], at: usize) -> Option<usize>
     requires { at < length s.now }
     ensures { result ≡ some_bytes (stride s.now at) }
@@ -91,10 +98,12 @@ fn stride(s: &[u8], at: usize) -> Option<usize>
 }
 
 // Whether a text is well-formed; if not, the refusal names where its first bad sequence starts.
+#[tactic(auto, using(crate::proofs::Characters::bytes_of, crate::proofs::Runs::stride_fits, crate::proofs::Runs::start))]
 pub fn check(s: &[u8]) -> Result<(), Refused>
     ensures { refusal_in result ≡ ill_formed s.now }
 {
     let mut at = 0;
+    // kept: it goes by sixteen bytes or by one sequence, so that no range has the places.
     while at < s.len() {
         let Some(bytes) = stride(s, at) else {
             return Err(Reason::SourceNotUtf8.at(at));
@@ -135,7 +144,7 @@ fn code_point(s: &[u8], at: usize, n: usize) -> u32
 }
 
 // The character that starts at `at`.
-#[tactic(auto, using(std::proofs::lemmas::Bool::Decides::nat_tests, crate::proofs::Characters::sequence_inside), unfolding(crate::specs::Utf8::char_at, crate::specs::Utf8::decoded))]
+#[tactic(auto, using(crate::proofs::Characters::sequence_inside), unfolding(crate::specs::Utf8::char_at, crate::specs::Utf8::decoded))]
 pub fn char_at(s: &[u8], at: usize) -> Option<Char>
     ensures { result ≡ char_at s.now at }
 {
@@ -146,34 +155,36 @@ pub fn char_at(s: &[u8], at: usize) -> Option<Char>
     })
 }
 
-// Whether a sequence of k bytes ends at `to` and starts at `from` or after it.
+// Whether a text ends in a sequence of k bytes.
 #[tactic(auto, using(std::proofs::lemmas::Bool::Decides::nat_tests), unfolding(crate::specs::Utf8::ends))]
-fn is_ending(s: &[u8], from: usize, to: usize, k: usize) -> bool
+fn is_ending(text: &[u8], k: usize) -> bool
     requires { 0 < k }
-    ensures { result ≡ ends s.now from to k }
+    ensures { result ≡ ends text.now 0 (length text.now) k }
 {
-    k <= to && from <= to - k && sequence(s, to - k) == Some(k)
+    k <= text.len() && sequence(text, text.len() - k) == Some(k)
 }
 
-// How many bytes the sequence that ends at `to` has, if one does and starts at `from` or after it.
-fn ending(s: &[u8], from: usize, to: usize) -> Option<usize>
-    ensures { result ≡ some_bytes (ending s.now from to) }
+// How many bytes the sequence at the end of a text has, if one is there.
+#[tactic(auto, using(crate::proofs::Characters::ending_at, crate::proofs::Characters::ending_none))]
+fn ending(text: &[u8]) -> Option<usize>
+    ensures { result ≡ some_bytes (ending text.now 0 (length text.now)) }
 {
     for k in 1..5 {
-        if is_ending(s, from, to, k) {
+        if is_ending(text, k) {
             return Some(k);
         }
     }
     None
 }
 
-// The last character of the range from `from` to `to`.
-pub fn char_before(s: &[u8], from: usize, to: usize) -> Option<Char>
-    ensures { result ≡ char_before s.now from to }
+// The last character of a text.
+#[tactic(auto, using(crate::proofs::Characters::bytes_of, crate::proofs::Characters::ending_fits))]
+pub fn last_char(text: &[u8]) -> Option<Char>
+    ensures { result ≡ char_before text.now 0 (length text.now) }
 {
-    let bytes = ending(s, from, to)?;
+    let bytes = ending(text)?;
     Some(Char {
-        code: code_point(s, to - bytes, bytes),
+        code: code_point(text, text.len() - bytes, bytes),
         bytes,
     })
 }

@@ -26,7 +26,8 @@ use Rattle.text.specs.Space.{something, seek, one_of, trim_end, trim}
 use Rattle.comments.specs.Comments as comments
 use Rattle.layout.specs.Layout.{shebang_rule, declaration, declares, opening, type_expr, type_form, type_args, path_rule, path_more, expr_with_precedence}
 use Rattle.layout.specs.Layout.{literal_rule}
-use Rattle.renderer_rules.specs.Renderer.{push_str, at_column, new_line, margin, comment, text, virtual_column, insert, indent_more, indent_less, next_indent_more}
+use Rattle.renderer_rules.specs.Renderer.{push_str, at_column, new_line, margin, comment, text, virtual_column}
+use Rattle.renderer_rules.specs.Renderer.{insert, indent_more, indent_less, next_indent_more}
 use Rattle.renderer_rules.specs.Renderer.{next_indent_less, wraps, group_wraps, trailing_call, callee_wraps, render_node, render_nodes}
 use Rattle.rows.specs.Texts.{origin_text}
 use Rattle.renderer_rules.specs.Page.{text_bytes}
@@ -35,10 +36,13 @@ use Rattle.marks.specs.Marks.{marks_needed}
 use Rattle.whole_run.specs.Edges.{newline, EdgesHold, WidthsHold, EmptyLineHolds}
 
 pub edges_hold : EdgesHold
-unfolding header comment_fits comments_from comment_list shape opens children_at skips record_at tree_at read_tree read_image source_fits read_all be16 be32 row_of
+unfolding header comment_fits comments_from comment_list shape opens children_at skips record_at tree_at read_tree read_image source_fits
+    read_all be16 be32 row_of
     row_under_of kind_fits_of payload_fits first_child written within row_in followed sequence runs prefix well_formed boundary is_range views syntax_tree bytes
-    must_wrap must_wraps width widths size sizes rows_of rows view_of node_of decode nodes_at comments_of pairs_at push_str at_column new_line margin comment text
-    virtual_column insert indent_more indent_less next_indent_more next_indent_less wraps group_wraps trailing_call callee_wraps render_node render_nodes origin_text
+    must_wrap must_wraps width widths size sizes rows_of rows view_of node_of decode nodes_at comments_of pairs_at push_str at_column
+    new_line margin comment text
+    virtual_column insert indent_more indent_less next_indent_more next_indent_less wraps group_wraps trailing_call callee_wraps render_node
+    render_nodes origin_text
     text_bytes
     reaches parts_fit row_fits_of first_wrong wrong_row_of places_fit wrong_place marks_needed place_in word
     joined words ◌⨟◌ ◌⨟?◌ ◌⨟!◌ join grouped indents count_newlines newline_places char_at decoded scalar something seek one_of trim_end trim char_before ending
@@ -48,8 +52,10 @@ unfolding header comment_fits comments_from comment_list shape opens children_at
 edges_hold = refl
 
 pub widths_hold : WidthsHold
-unfolding header source_fits be32 must_wrap must_wraps width widths size sizes rows_of rows view_of node_of decode nodes_at push_str at_column new_line margin text
-    virtual_column insert wraps group_wraps render_node render_nodes origin_text text_bytes reaches parts_fit row_fits_of first_wrong wrong_row_of places_fit wrong_place
+unfolding header source_fits be32 must_wrap must_wraps width widths size sizes rows_of rows view_of node_of decode nodes_at push_str
+    at_column new_line margin text
+    virtual_column insert wraps group_wraps render_node render_nodes origin_text text_bytes reaches parts_fit row_fits_of first_wrong
+    wrong_row_of places_fit wrong_place
     marks_needed
 widths_hold = record {
   least = record { stays = refl; wraps = refl };

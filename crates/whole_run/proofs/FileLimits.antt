@@ -17,7 +17,8 @@ use Rattle.image.specs.Bytes.{be16}
 use Rattle.image.specs.Limits.{MAX_SOURCE}
 use Rattle.image.specs.Read.{header, source_fits, read_all}
 use Rattle.image.proofs.Accepted.{headed}
-use Rattle.rows.specs.Node.{Text, Node, Nodes, group, indent, indent_next, wrap_parent, comment, str, ascii, line, empty_line, line_or_space, if_wrap, call, ◌then◌}
+use Rattle.rows.specs.Node.{Text, Node, Nodes, group, indent, indent_next, wrap_parent, comment}
+use Rattle.rows.specs.Node.{str, ascii, line, empty_line, line_or_space, if_wrap, call, ◌then◌}
 use Rattle.rows.specs.Node as node
 use Rattle.rows.specs.Rows.{size, sizes}
 use Rattle.rows.specs.Places.{KIND, NUMBER, SECOND_NUMBER, SECOND, AFTER, ORIGIN, START, SIZE, WIDTH}

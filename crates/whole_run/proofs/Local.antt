@@ -11,7 +11,8 @@ use lib.Dec.{ltb, eqb}
 use lib.ListN.{get_or}
 use lib.Seq.{get_or-take}
 use Rattle.rows.specs.Places.{PLACES}
-use Rattle.rows.specs.Node.{Node, Nodes, group, indent, indent_next, wrap_parent, comment, str, ascii, line, empty_line, line_or_space, if_wrap, call, none, ◌then◌}
+use Rattle.rows.specs.Node.{Node, Nodes, group, indent, indent_next, wrap_parent, comment, str, ascii}
+use Rattle.rows.specs.Node.{line, empty_line, line_or_space, if_wrap, call, none, ◌then◌}
 use Rattle.rows.specs.View.{View, cell, view_of, first_of, node_of, end_in, second_in, decode, nodes_at}
 use Rattle.rows.proofs.Decode.{step, decode_none}
 use Rattle.rows.specs.Nesting.{RangeIn, TwoParts, Split, Nests, over, leaf, block, two, pair}

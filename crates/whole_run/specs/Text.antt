@@ -1,6 +1,6 @@
--- "Our house rule now keeps them all" (document 02, 4), said of the text: it holds the comments, and it is the program that was read. In every mode and at every
--- width, of a whole file and of every list of calls, by the rules; crates/demands/specs/Text.antt says it of the functions. proofs/Text.antt proves the claims.
--- What a program is written of: `tokens_of` (crates/layout_facts/specs/Tokens.antt).
+-- "Our house rule now keeps them all" (document 02, 4), said of the text: it holds the comments, and it is the program that was read. In every
+-- mode and at every width, of a whole file and of every list of calls, by the rules; crates/demands/specs/Text.antt says it of the functions.
+-- proofs/Text.antt proves the claims. What a program is written of: `tokens_of` (crates/layout_facts/specs/Tokens.antt).
 use Rattle.std.specs.Prelude.{◌≡◌, true, cond, List, [], ◌++◌, ℕ, ◌-◌, length, take, None}
 use Rattle.image.specs.Read.{read_all, read_refusal}
 use Rattle.rows.specs.View.{view_of, nodes_at}
@@ -17,8 +17,8 @@ use Rattle.whole_run.specs.Demands.{rules_of}
 use Rattle.whole_run.specs.File.{FileResult, file_answer, file_output}
 
 -- ---- what is said of a text
--- It holds the first so many comments of the list, in order: of each its bytes in the source, white space at the end cut, and a newline. What else is in the text
--- is not said.
+-- It holds the first so many comments of the list, in order: of each its bytes in the source, white space at the end cut, and a newline. What
+-- else is in the text is not said.
 abbrev pub HoldsFirst : List ℕ → List ℕ → ℕ → List ℕ → Type 0
 HoldsFirst s b placed text = HoldsInOrder anything (IsLine (text_bytes s b)) (take placed (listed s b)) text
 
@@ -46,8 +46,8 @@ TextIsTheProgram = (s b : List ℕ) (c : FileChoice) → IsProgram s b (built s 
 abbrev pub NewModePlacesAll : Type 0
 NewModePlacesAll = (s b : List ℕ) (c : FileChoice) → read_refusal (read_all s b) ≡ None → c.mode ≡ NEW_MODE → (built s b c).placed ≡ length (listed s b)
 
--- As a caller of `format_file` sees it, by the answer alone: the bytes that it wrote are the program and all comments but the last so many, those that it told to be
--- left.
+-- As a caller of `format_file` sees it, by the answer alone: the bytes that it wrote are the program and all comments but the last so many,
+-- those that it told to be left.
 abbrev pub OutputIsTheProgram : Type 0
 OutputIsTheProgram =
     (s b : List ℕ) (c : FileChoice) (out : List ℕ) (r : FileResult) → file_answer s b c (length out) ≡ accepted r
@@ -62,8 +62,8 @@ program_to s b l = cond l.begun (shebang_tokens b (tree s b).shebang) [] & decla
 abbrev pub pieces_between : List ℕ → ℕ → ℕ → List Piece
 pieces_between store i j = pieces (nodes_at (view_of store) i j)
 
--- What calls leave, at every moment: the text joined in call order is made of the pieces of the rows rendered so far. With those of the rows that are laid out and not
--- rendered yet, these are the comments placed and the program as far as layout came.
+-- What calls leave, at every moment: the text joined in call order is made of the pieces of the rows rendered so far. With those of the rows
+-- that are laid out and not rendered yet, these are the comments placed and the program as far as layout came.
 pub record SoFar (s b : List ℕ) (w : Carried (rules_of s b)) : Type 0 where
   pub made : MadeOf (text_bytes s b) (pieces_between w.store 0 w.render_state_of.row) w.text
   pub comments : comments_among (pieces_between w.store 0 w.render_state_of.row)

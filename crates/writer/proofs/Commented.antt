@@ -132,20 +132,18 @@ module _ (l : List ℕ) (at : ℕ) where
           })
 
 -- ---- the loop: the whole run ends as the run from here on does
-pub record Listing (l : List ℕ) (whole : Ran) (size left at pos : ℕ) (out : List ℕ) : Type 0 where
+pub record Listing (l : List ℕ) (whole : Ran) (left at pos : ℕ) (out : List ℕ) : Type 0 where
   pub inside : at ≤ length l
   pub low : pos ≤ 7 + at
-  pub room : length out ≡ size
   pub same : whole ≡ put_by pair_bytes pos out (comments_from l left at)
 
-pub lists_on : {l : List ℕ} {whole : Ran} {size left at pos : ℕ} {out : List ℕ} → Listing l whole size left at pos out → (o : List ℕ) → Small l
-    → length o ≡ length out → ¬ (left ≡ 0) → stands l at 1 1 ≡ true → taken (bind (step_from l at) (pair_by at)) ≡ true
-    → o ≡ sets out pos (part (at + 1) (at + 9) l) → Listing l whole size (left - 1) (at + 9) (pos + 8) o
-lists_on {l} {whole} {size} {left} {at} {pos} {out} g o small len z e f h =
+pub lists_on : {l : List ℕ} {whole : Ran} {left at pos : ℕ} {out : List ℕ} → Listing l whole left at pos out → (o : List ℕ) → Small l
+    → ¬ (left ≡ 0) → stands l at 1 1 ≡ true → taken (bind (step_from l at) (pair_by at)) ≡ true
+    → o ≡ sets out pos (part (at + 1) (at + 9) l) → Listing l whole (left - 1) (at + 9) (pos + 8) o
+lists_on {l} {whole} {left} {at} {pos} {out} g o small z e f h =
     record {
       inside = (was_pair l at f).0;
       low = omega (arith, g.low);
-      room = len ∙ g.room;
       same = g.same ∙ next_put l at left pos out o small z e f h;
     }
 
@@ -153,14 +151,14 @@ pub pair_fits : (l : List ℕ) (at : ℕ) → taken (bind (step_from l at) (pair
 pair_fits l at e = (was_pair l at e).0
 
 -- no comment is left
-pub lists_end : {l : List ℕ} {whole : Ran} {size left at pos : ℕ} {out : List ℕ} → Listing l whole size left at pos out → (o : List ℕ) → o ≡ out
+pub lists_end : {l : List ℕ} {whole : Ran} {left at pos : ℕ} {out : List ℕ} → Listing l whole left at pos out → (o : List ℕ) → o ≡ out
     → stands l at 1 1 ≡ false → up_to at pos o ≡ whole
-lists_end {l} {whole} {size} {left} {at} {pos} {out} g o e f =
+lists_end {l} {whole} {left} {at} {pos} {out} g o e f =
     is_held pair_bytes pos out (comments_from l left at) at pos o
     (record { what = []; reads = from_none l at left f; place = omega arith; output = λ low. e })
     ∙ sym g.same
 
-pub lists_wrong : {l : List ℕ} {whole : Ran} {size left at pos : ℕ} {out : List ℕ} → Listing l whole size left at pos out
+pub lists_wrong : {l : List ℕ} {whole : Ran} {left at pos : ℕ} {out : List ℕ} → Listing l whole left at pos out
     → comments_from l left at ≡ bad 16 at → fault 16 at ≡ whole
 lists_wrong {pos = pos} {out = out} g e = sym (g.same ∙ ap (put_by pair_bytes pos out) e)
 

@@ -30,7 +30,7 @@ use Rattle.steps.proofs.Taken.{list_append, record_taken}
 use Rattle.steps.proofs.Sizes.{record_size, payload_size, pairs_size}
 use Rattle.writer.specs.Put.{put_of, put_by}
 use Rattle.writer.specs.Wrote.{measures, measured}
-use Rattle.writer.specs.declared.output.Reached.{Reached}
+use Rattle.writer.specs.declared.output.Output.{Output}
 use Rattle.writer.specs.declared.whole.Measured.{Measured}
 use Rattle.writer.proofs.Runs.{was_held, was_fault}
 use Rattle.writer.proofs.Commented.{comments_got}
@@ -175,11 +175,11 @@ module _ (l : List ℕ) where
 
 -- ---- what is put
 -- a run over what is accepted puts it
-pub put_got : {A : Type 0} (f : A → List ℕ) (pos : ℕ) (out : List ℕ) (rd : Read A) (r : Result Reached Refused) (o : List ℕ) (a : A) (e : ℕ)
-    → put_of r o ≡ put_by f pos out rd → rd ≡ got a e → pos + length (f a) < 4294967296 → o ≡ sets out pos (f a)
+pub put_got : {A : Type 0} (f : A → List ℕ) (pos : ℕ) (out : List ℕ) (rd : Read A) (r : Result ℕ Refused) (o : Output) (a : A) (e : ℕ)
+    → put_of r o ≡ put_by f pos out rd → rd ≡ got a e → pos + length (f a) < 4294967296 → o.bytes.now ≡ sets out pos (f a)
 put_got f pos out rd (Ok x) o a e h g low =
-    let k = was_held f pos out rd x.at x.pos o h in
-    let w : got k.what x.at ≡ got a e = sym k.reads ∙ g in
+    let k = was_held f pos out rd x o.pos o.bytes.now h in
+    let w : got k.what x ≡ got a e = sym k.reads ∙ g in
     let same : k.what ≡ a = cc in
     k.output (rw (k.place, same) low) ∙ ap (λ (u : _). sets out pos (f u)) same
 put_got f pos out rd (Err x) o a e h g low =

@@ -12,7 +12,7 @@ use borrow.Author.Tests.{le-leb, lt-ltb, le-ltb, ltb-false}
 use Rattle.refusals.specs.Refusals.{Refusal}
 use Rattle.refusals.specs.Answers.{refused, accepted}
 use Rattle.image.specs.Bytes.{be16, be32, part}
-use Rattle.image.specs.Grammar.{bare, place, after, complete, row_under_of, first_child}
+use Rattle.image.specs.Grammar.{bare, place, after, complete, row_under_of}
 use Rattle.image.specs.Read.{Read, got, bad, bind, head_at, stop_at, kind_at, Tree, Trees, absent, node, nil, ◌▸◌, Image, skips}
 use Rattle.image.specs.Read.{child_at, record_at, children_at, tree_at, read_image, read_all, source_fits, document_of, outcome}
 use Rattle.image.specs.declared.Document.{Document}
@@ -42,12 +42,11 @@ pub record Ahead (b : List ℕ) (first stop start : ℕ) (out₀ : List ℕ) (ts
 pub record Rows (b : List ℕ) (first stop start : ℕ) (out₀ : List ℕ) (at pos : ℕ) (out : List ℕ) : Type 0 where
   pub from : first ≤ at
   pub below : pos ≤ 2 * at
-  pub room : length out ≡ length out₀
   pub ahead : (ts : Trees) → Row b ts first stop → Ahead b first stop start out₀ ts at pos out
 
 pub rows_none : (b : List ℕ) (first stop start : ℕ) (out : List ℕ) → RowThere b first stop start → Rows b first stop start out first start out
 rows_none b first stop start out r =
-    record { from = omega arith; below = r.below; room = refl; ahead = λ ts s. record { rest = ts; stands = s; place = refl; output = refl } }
+    record { from = omega arith; below = r.below; ahead = λ ts s. record { rest = ts; stands = s; place = refl; output = refl } }
 
 -- the child at `at`
 pub row_child : (b : List ℕ) (ts : Trees) (at stop : ℕ) → Row b ts at stop → at < stop
@@ -91,9 +90,9 @@ rows_ahead b first stop start out₀ at pos out q o ts a h p =
     }
 
 pub rows_one : (b : List ℕ) (first stop start : ℕ) (out₀ : List ℕ) (at pos : ℕ) (out : List ℕ) (n q : ℕ) (o : List ℕ) → RowThere b first stop start
-    → Rows b first stop start out₀ at pos out → at < stop → length o ≡ length out → n ≡ stop_at b at → PutsTree b at pos out q o
+    → Rows b first stop start out₀ at pos out → at < stop → n ≡ stop_at b at → PutsTree b at pos out q o
     → Rows b first stop start out₀ n q o
-rows_one b first stop start out₀ at pos out n q o r g h len e p =
+rows_one b first stop start out₀ at pos out n q o r g h e p =
     let d = row_tree b first stop start out₀ at pos out r g h in
     let w = p d.tree d.end d.stands in
     let s = tree_bytes_lem b d.tree at d.end d.stands in
@@ -102,7 +101,6 @@ rows_one b first stop start out₀ at pos out n q o r g h len e p =
     (record {
       from = omega (arith, g.from, x.is, x.after);
       below = omega (arith, w.place, g.below, x.is, x.after);
-      room = len ∙ g.room;
       ahead = λ ts s. rows_ahead b first stop start out₀ at pos out q o ts (g.ahead ts s) h p;
     })
 
@@ -137,9 +135,6 @@ pub tree_room : (b : List ℕ) (at pos : ℕ) → TreeThere b at pos → ¬ (be3
 tree_room b at pos t z =
     let w = (tree_head b at pos t z).0 in
     (w.long, (w.inside, (t.short, t.below)))
-
-pub first_is : (b : List ℕ) (at k n f : ℕ) → k ≡ kind_at b at → n ≡ be32 b at → f ≡ first_child k (at + 13) (at + 4 + n) → f ≡ (head_at b at).first
-first_is b at k n f e m g = g ∙ ap₂ (λ (x y : ℕ). first_child x (at + 13) (at + 4 + y)) e m
 
 abbrev payload_of : List ℕ → ℕ → List ℕ
 payload_of b at = list_bytes (payload_steps (kind_at b at) (part (at + 13) (head_at b at).first b))
@@ -179,7 +174,6 @@ pub record Pairs (b : List ℕ) (count : ℕ) (out₀ : List ℕ) (i at pos : �
   pub some : i ≤ count
   pub place : at ≡ 7 + 8 * i
   pub far : pos ≡ 9 * i
-  pub room : length out ≡ length out₀
   pub long : pos + length (pairs_bytes b (count - i) at) ≡ length (pairs_bytes b count 7)
   pub output : sets out pos (pairs_bytes b (count - i) at) ≡ sets out₀ 0 (pairs_bytes b count 7)
 
@@ -190,7 +184,6 @@ pairs_none b count out =
       some = omega arith;
       place = omega arith;
       far = omega arith;
-      room = refl;
       long = ap (λ (n : ℕ). 0 + length (pairs_bytes b n 7)) z ∙ omega arith;
       output = ap (λ (n : ℕ). sets out 0 (pairs_bytes b n 7)) z;
     }
@@ -200,9 +193,9 @@ unfolding pairs_at
 pair_bytes b n at = refl
 
 pub pairs_one : (b : List ℕ) (count : ℕ) (out₀ : List ℕ) (i at pos : ℕ) (out o₁ o₂ : List ℕ) → Small b → 7 + 8 * count ≤ length b
-    → Pairs b count out₀ i at pos out → i < count → length o₂ ≡ length out → o₁ ≡ sets out pos (1 ∷ []) → o₂ ≡ sets o₁ (pos + 1) (part at (at + 8) b)
+    → Pairs b count out₀ i at pos out → i < count → o₁ ≡ sets out pos (1 ∷ []) → o₂ ≡ sets o₁ (pos + 1) (part at (at + 8) b)
     → Pairs b count out₀ (i + 1) (at + 8) (pos + 9) o₂
-pairs_one b count out₀ i at pos out o₁ o₂ small fits g h len e₁ e₂ =
+pairs_one b count out₀ i at pos out o₁ o₂ small fits g h e₁ e₂ =
     let n = count - (i + 1) in
     let m : count - i ≡ suc n = omega arith in
     let w = (1 ∷ bytes4 (be32 b at) ++ bytes4 (be32 b (at + 4))) in
@@ -218,7 +211,6 @@ pairs_one b count out₀ i at pos out o₁ o₂ small fits g h len e₁ e₂ =
       some = omega arith;
       place = omega (arith, g.place);
       far = omega (arith, g.far);
-      room = len ∙ g.room;
       long = omega (arith, g.long);
       output =
           ap (λ (u : List ℕ). sets u (pos + 9) (pairs_bytes b n (at + 8))) put

@@ -11,13 +11,13 @@ use native.Mathlib.Numerals.{sub-one}
 use lib.Dec.{ltb}
 use lib.ListN.{length, get_or, set, length-append}
 use lib.Seq.{sets}
-use borrow.Author.Tests.{ltb-true, ltb-false, le-leb, lt-leb, eq-eqb, ne_eqb}
+use borrow.Author.Tests.{ltb-true, ltb-false, le-leb, lt-leb, ne_eqb}
 use Rattle.refusals.specs.Reasons.{number_of}
 use Rattle.refusals.specs.declared.Refused.{Refused}
 use Rattle.text.specs.Utf8.{well_formed}
 use Rattle.image.specs.Bytes.{be16, be32, part}
 use Rattle.image.specs.Kinds.{TEXT}
-use Rattle.image.specs.Grammar.{is_optional, bare, place, after, complete, row_under_of, has_byte, top_byte}
+use Rattle.image.specs.Grammar.{is_optional, bare, place, after, complete, row_under_of, has_byte}
 use Rattle.image.specs.Read.{Read, got, bad, bind}
 use Rattle.image.specs.Write.{Plain, Plains, without, plainly, done, ◌next◌, bytes4, written, writtens}
 use Rattle.image.proofs.Exact.{Small, part_length}
@@ -25,9 +25,8 @@ use Rattle.steps.specs.Steps.{bytes2}
 use Rattle.steps.specs.Writer.{step_from, text_by, byte_by, Opened, opened_from, payload_from, children_from, record_from}
 use Rattle.steps.proofs.Took.{took_byte, took_two, took_four, took_join, took_is}
 use Rattle.writer.specs.Steps.{stands, child_from}
-use Rattle.writer.specs.Put.{held, long, closed, fault, up_to, put_by, child_by, put_of, child_of}
-use Rattle.writer.specs.declared.output.Reached.{Reached}
-use Rattle.writer.specs.declared.records.Child.{Child}
+use Rattle.writer.specs.Put.{held, long, closed, fault, up_to, put_by, child_by, put_of}
+use Rattle.writer.specs.declared.output.Output.{Output}
 use Rattle.writer.proofs.Seen.{stood, text_step_lem, payload_step_lem, opened_at, child_close, child_absent, child_there, children_turn}
 use Rattle.writer.proofs.Stores.{sets_before, sets_behind}
 
@@ -93,23 +92,19 @@ was_fault f pos out (got a end) n p h = absurd (no_fault end (pos + length (f a)
 was_fault f pos out (bad m q) n p h = cc
 
 -- ---- what a run says of what it read, by its answer
-pub read_next : {A : Type 0} (f : A → List ℕ) (pos : ℕ) (out : List ℕ) (rd : Read A) (r : Result Reached Refused) (o : List ℕ) (x : Reached)
-    → put_of r o ≡ put_by f pos out rd → r ≡ Ok x → Held f pos out rd x.at x.pos o
-read_next f pos out rd r o x h k = was_held f pos out rd x.at x.pos o (ap (λ (y : Result Reached Refused). put_of y o) (sym k) ∙ h)
+pub read_next : {A : Type 0} (f : A → List ℕ) (pos : ℕ) (out : List ℕ) (rd : Read A) (r : Result ℕ Refused) (o : Output) (x : ℕ)
+    → put_of r o ≡ put_by f pos out rd → r ≡ Ok x → Held f pos out rd x o.pos o.bytes.now
+read_next f pos out rd r o x h k = was_held f pos out rd x o.pos o.bytes.now (ap (λ (y : Result ℕ Refused). put_of y o) (sym k) ∙ h)
 
-pub read_fault : {A : Type 0} (f : A → List ℕ) (pos : ℕ) (out : List ℕ) (rd : Read A) (r : Result Reached Refused) (o : List ℕ) (x : Refused)
+pub read_fault : {A : Type 0} (f : A → List ℕ) (pos : ℕ) (out : List ℕ) (rd : Read A) (r : Result ℕ Refused) (o : Output) (x : Refused)
     → put_of r o ≡ put_by f pos out rd → r ≡ Err x → rd ≡ bad (number_of x.reason) x.place
 read_fault f pos out rd r o x h k =
-    was_fault f pos out rd (number_of x.reason) x.place (ap (λ (y : Result Reached Refused). put_of y o) (sym k) ∙ h)
+    was_fault f pos out rd (number_of x.reason) x.place (ap (λ (y : Result ℕ Refused). put_of y o) (sym k) ∙ h)
 
 -- and what one says that a `?` ends
-pub passed_put : (r : Result Reached Refused) (e : Refused) (o : List ℕ) → IsErrAnd r (λ x. x ≡ e) → put_of r o ≡ fault (number_of e.reason) e.place
+pub passed_put : (r : Result ℕ Refused) (e : Refused) (o : Output) → IsErrAnd r (λ x. x ≡ e) → put_of r o ≡ fault (number_of e.reason) e.place
 passed_put (Ok x) e o h = absurd h
 passed_put (Err x) e o h = rw h
-
-pub passed_child : (r : Result Child Refused) (e : Refused) (o : List ℕ) → IsErrAnd r (λ x. x ≡ e) → child_of r o ≡ fault (number_of e.reason) e.place
-passed_child (Ok x) e o h = absurd h
-passed_child (Err x) e o h = rw h
 
 -- ---- a child
 pub was_child : (pos : ℕ) (out : List ℕ) (r : Read (Option Plain)) (e q : ℕ) (o : List ℕ) → up_to e q o ≡ child_by pos out r
@@ -221,16 +216,8 @@ text_ill l at n e s w = rw (text_step_lem l at s, sym (ap (λ (j : ℕ). well_fo
 pub byte_high : (l : List ℕ) (at top x : ℕ) → x ≡ get_or l (at + 1) 0 → stands l at 4 2 ≡ true → top < x → bind (step_from l at) (byte_by at top) ≡ bad 16 at
 byte_high l at top x e s h = rw (payload_step_lem l at s, lt-leb (get_or l (at + 1) 0) top (omega arith))
 
--- the three sorts of payload
+-- the kinds without a payload
 module _ (l : List ℕ) (p kind at : ℕ) where
-  pub payload_text : kind ≡ TEXT → payload_from l p kind at ≡ bind (step_from l at) (text_by at)
-  unfolding payload_from
-  payload_text e = rw (eq-eqb kind TEXT e)
-
-  pub payload_byte : ¬ (kind ≡ TEXT) → has_byte kind ≡ true → payload_from l p kind at ≡ bind (step_from l at) (byte_by at (top_byte p kind))
-  unfolding payload_from
-  payload_byte n e = rw (ne_eqb kind TEXT n, e)
-
   pub payload_none : ¬ (kind ≡ TEXT) → has_byte kind ≡ false → payload_from l p kind at ≡ got [] at
   unfolding payload_from
   payload_none n e = rw (ne_eqb kind TEXT n, e)

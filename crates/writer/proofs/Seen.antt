@@ -164,6 +164,11 @@ module _ (l : List ℕ) (p at : ℕ) where
       go true w = (w, rw (opened_if w, sym (opened_taken w) ∙ e))
       go false w = absurd (clash _ e (ap taken (opened_not w)))
 
+  -- and whose kind is right
+  pub taken_fits : taken (opened_from l p at) ≡ true → kind_fits_of p (get_or l (at + 1) 0) ≡ true
+  taken_fits e =
+      (both (kind_fits_of p (get_or l (at + 1) 0)) (leb (be32 l (at + 2)) (be32 l (at + 6))) (sym (opened_taken (was_opened e).0) ∙ e)).0
+
   pub opened_room : taken (opened_from l p at) ≡ true → at + 10 ≤ length l
   opened_room e = (stood l at 2 10 (was_opened e).0).0
 
@@ -254,6 +259,18 @@ module _ (one : ℕ → ℕ → Read Plain) (l : List ℕ) (row at : ℕ) where
   child_spare e z =
       child_open e
       ∙ ap (λ (t : Bool). cond t (bad 16 at) (bind (one (bare (place row)) at) (λ y behind. got (Some y) behind))) (eq-eqb row 0 z)
+
+  -- where no place is left
+  pub child_none : stands l at 6 1 ≡ false → row ≡ 0 → child_from one l row at ≡ bad 16 at
+  child_none n6 z = go (stands l at 5 1) refl
+    where
+      there : (t : Bool) → stands l at 2 10 ≡ t → stands l at 5 1 ≡ false → child_from one l row at ≡ bad 16 at
+      there true s n5 = child_spare s z
+      there false s n5 = child_not n6 n5 s
+
+      go : (t : Bool) → stands l at 5 1 ≡ t → child_from one l row at ≡ bad 16 at
+      go true s = child_due s (ap (λ (r : ℕ). is_optional (place r)) z)
+      go false s = there (stands l at 2 10) refl s
 
   pub child_there : stands l at 2 10 ≡ true → ¬ (row ≡ 0)
       → child_from one l row at ≡ bind (one (bare (place row)) at) (λ y behind. got (Some y) behind)

@@ -1,15 +1,18 @@
 -- Bytes put into an output in another order than they stand in.
 -- Assumes nothing.
 use mathlib.Core.Path.{◌≡◌, refl, sym, ap, ◌∙◌}
-use mathlib.Core.List.{List, [], ◌∷◌, ◌++◌}
-use Prim.Native.Nat.{ℕ, suc, ◌+◌, ◌/◌, ◌%◌, ◌≤◌}
+use mathlib.Core.List.{List, [], ◌∷◌, ◌++◌, append_assoc}
+use mathlib.Core.Logic.{◌⊎◌, inl, inr}
+use Prim.Native.Nat.{ℕ, suc, min, ◌+◌, ◌-◌, ◌/◌, ◌%◌, ◌≤◌}
 use native.Mathlib.Omega.{arith}
-use native.Mathlib.Numerals.{add-one, add-two, add-three}
-use lib.ListN.{length, set}
-use lib.Seq.{sets, set_comm}
+use lib.ListN.{length, set, take, drop, length-drop, take-append-drop}
+use mathlib.Core.Bool.{Bool, true, false}
+use lib.Dec.{leb}
+use borrow.Author.Tests.{leb-true, leb-false}
+use borrow.Rule.Slice.PartMut.{put_mid}
+use lib.Seq.{sets, set_comm, set_out, sets-eq, drop-drop, length-sets, length-take-le}
 use Rattle.laws.proofs.Stores.{sets_append}
 use Rattle.image.specs.Write.{bytes4}
-use Rattle.steps.specs.Steps.{bytes2}
 
 -- a store above the run
 set_above : (vs s : List ℕ) (i j v : ℕ) → j + length vs ≤ i → sets (set s i v) j vs ≡ set (sets s j vs) i v
@@ -32,17 +35,47 @@ sets_before vs ws s i k e =
 pub sets_behind : (vs ws s : List ℕ) (i k : ℕ) → k ≡ i + length vs → sets (sets s i vs) k ws ≡ sets s i (vs ++ ws)
 sets_behind vs ws s i k e = ap (λ (n : ℕ). sets (sets s i vs) n ws) e ∙ sym (sets_append vs ws s i)
 
--- ---- bytes put one after the other
--- the four bytes of a number
-pub four_put : (s₀ s₁ s₂ s₃ s₄ : List ℕ) (i n : ℕ) → s₁ ≡ set s₀ i (n / 16777216 % 256) → s₂ ≡ set s₁ (i + 1) (n / 65536 % 256)
-    → s₃ ≡ set s₂ (i + 2) (n / 256 % 256) → s₄ ≡ set s₃ (i + 3) (n % 256) → s₄ ≡ sets s₀ i (bytes4 (n % 4294967296))
-four_put s₀ s₁ s₂ s₃ s₄ i n p₁ p₂ p₃ p₄ =
+-- past the end nothing changes, and only what has room does
+pub sets_out : (vs s : List ℕ) (i : ℕ) → length s ≤ i → sets s i vs ≡ s
+sets_out [] s i h = refl
+sets_out (v ∷ vs) s i h = ap (λ (u : List ℕ). sets u (suc i) vs) (set_out s i v h) ∙ sets_out vs s (suc i) (omega arith)
+
+pub sets_room : (vs s : List ℕ) (i n : ℕ) → i ≤ length s → n ≡ min (length vs) (length s - i) → sets s i (take n vs) ≡ sets s i vs
+sets_room vs s i n h e =
+    let long = length-take-le n vs (omega (arith, e)) in
+    let all = take-append-drop n vs in
+    let rest : length (drop n vs) ≡ length vs - n = length-drop n vs in
+    sym (ap (sets s i) (sym all) ∙ sets_append (take n vs) (drop n vs) s i ∙ past (drop n vs) (sets s i (take n vs)) (i + length (take n vs))
+    (more (length vs) (length s) n i (length (drop n vs)) (length (sets s i (take n vs))) (length (take n vs)) h e rest (length-sets s i (take n vs)) long))
+  where
+    past : (ws u : List ℕ) (k : ℕ) → (length ws ≡ 0) ⊎ (length u ≤ k) → sets u k ws ≡ u
+    past [] u k h = refl
+    past (w ∷ ws) u k (inl z) = absurd (omega arith)
+    past (w ∷ ws) u k (inr h) = sets_out (w ∷ ws) u k h
+
+    more : (v s n i d u t : ℕ) → i ≤ s → n ≡ min v (s - i) → d ≡ v - n → u ≡ s → t ≡ n → (d ≡ 0) ⊎ (u ≤ i + t)
+    more v s n i d u t h e f g k = go (leb (s - i) v) refl
+      where
+        go : (b : Bool) → leb (s - i) v ≡ b → (d ≡ 0) ⊎ (u ≤ i + t)
+        go true w = let l = leb-true (s - i) v w in inr (omega arith)
+        go false w = let l = leb-false (s - i) v w in inl (omega arith)
+
+-- a part that is written over by one call, as far as there is room
+pub part_sets : (vs s : List ℕ) (i n : ℕ) → i ≤ length s → n ≡ min (length vs) (length s - i) → put_mid i (i + n - i) s (take n vs) ≡ sets s i vs
+part_sets vs s i n h e =
+    let k : i + n - i ≡ n = omega arith in
+    let long = length-take-le n vs (omega (arith, e)) in
+    ap (λ (m : ℕ). put_mid i m s (take n vs)) k
+    ∙ ap (λ (r : List ℕ). take i s ++ (take n vs ++ r)) (drop-drop n i s ∙ ap (λ (m : ℕ). drop (i + m) s) (sym long))
+    ∙ sym (append_assoc (take i s) (take n vs) _)
+    ∙ sym (sets-eq (take n vs) s i (omega (arith, e, long)))
+    ∙ sets_room vs s i n h e
+
+-- the low four bytes of a number
+pub four_low : (n : ℕ) → bytes4 (n % 4294967296) ≡ (n / 16777216 % 256) ∷ (n / 65536 % 256) ∷ (n / 256 % 256) ∷ (n % 256) ∷ []
+four_low n =
     let e₁ : n % 4294967296 / 16777216 ≡ n / 16777216 % 256 = omega arith in
     let e₂ : n % 4294967296 / 65536 % 256 ≡ n / 65536 % 256 = omega arith in
     let e₃ : n % 4294967296 / 256 % 256 ≡ n / 256 % 256 = omega arith in
     let e₄ : n % 4294967296 % 256 ≡ n % 256 = omega arith in
-    cc (add-one i, add-two i, add-three i)
-
--- the two bytes of a number
-pub two_put : (s₀ s₁ s₂ : List ℕ) (i n : ℕ) → s₁ ≡ set s₀ i (n / 256) → s₂ ≡ set s₁ (i + 1) (n % 256) → s₂ ≡ sets s₀ i (bytes2 n)
-two_put s₀ s₁ s₂ i n p₁ p₂ = cc (add-one i)
+    cc

@@ -7,9 +7,7 @@ use Rattle.refusals.specs.declared.Refused.{Refused}
 use Rattle.image.specs.Read.{Read, got, bad}
 use Rattle.image.specs.Write.{Plain, written}
 use Rattle.steps.specs.Rows.{short}
-use Rattle.writer.specs.declared.output.Reached.{Reached}
-use Rattle.writer.specs.declared.records.Child.{Child}
-use Rattle.writer.specs.declared.records.Child.TheVariants.{Closed, Laid}
+use Rattle.writer.specs.declared.output.Output.{Output}
 
 -- ---- what it leaves
 -- where the list goes on, the place behind what was put, and the output; a refusal's number and place; or where the list goes on behind the step
@@ -33,15 +31,10 @@ child_by pos out (got None past) = closed past out
 child_by pos out (got (Some x) past) = up_to past (pos + length (written x)) (sets out pos (written x))
 child_by pos out (bad n p) = fault n p
 
--- what each answer stands for, with the output at exit
-abbrev pub put_of : Result Reached Refused → List ℕ → Ran
-put_of (Ok r) out = up_to r.at r.pos out
-put_of (Err r) out = fault (number_of r.reason) r.place
-
-abbrev pub child_of : Result Child Refused → List ℕ → Ran
-child_of (Ok (Closed at)) out = closed at out
-child_of (Ok (Laid r)) out = up_to r.at r.pos out
-child_of (Err r) out = fault (number_of r.reason) r.place
+-- what an answer stands for, with the output at exit: where the list goes on
+abbrev pub put_of : Result ℕ Refused → Output → Ran
+put_of (Ok at) o = up_to at o.pos o.bytes.now
+put_of (Err r) o = fault (number_of r.reason) r.place
 
 -- ---- no sum wraps
 -- An absent child has one byte in the list and four in the image; of every other step the image has no more than twice its bytes. So what is put

@@ -12,8 +12,9 @@ mod whole;
 ghost use Rattle.writer.specs.Wrote.{Writes, Lists};
 
 use crate::list::list_image;
-use crate::whole::{HEADER, measure, put_image};
+use crate::whole::{measure, put_image};
 use image::limits::MAX_BODY;
+use image::sizes::HEADER;
 use refusals::{Reason, Refused};
 
 // Writes the image of a list of steps to the start of the output, and answers how many bytes it has; or refuses it.

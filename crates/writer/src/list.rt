@@ -6,93 +6,97 @@ ghost use Rattle.image.specs.Read.{head_at, kind_at};
 ghost use Rattle.steps.specs.Steps.{comment_step, payload_steps, list_bytes};
 ghost use Rattle.writer.specs.Stands.{Puts, TreeThere, RowThere, HeadThere, ImageThere, PutsTree, PutsRow, PutsImage};
 
-use crate::output::{copy, put, put32};
-use crate::pairs::PAIR;
-use crate::records::{HEAD, LENGTH};
-use crate::step::{COMMENT_BYTES, Code, OPEN_BYTES, TEXT_BYTES, WIDTH};
-use crate::whole::PAIRS;
+use crate::output::Output;
+use crate::step::Code;
 use image::bytes::num32;
-use image::grammar::{first_child, has_byte};
-use image::kinds::TEXT;
+use image::kinds::Kind;
+use image::sizes::{HEAD, LENGTH, PAIR, PAIRS, WIDTH};
 
-// Puts the steps of the payload of the record at `at`.
-fn list_payload(image: &[u8], at: usize, out: &mut [u8], pos: usize) -> usize
-    requires { HeadThere image.now at pos }
-    ensures { Puts (list_bytes (payload_steps (kind_at image.now at) (part (at + 13) (head_at image.now at).first image.now))) pos out.old result out.new }
+// Puts the steps of the payload of the record at `at`, and answers where its children start.
+fn list_payload(image: &[u8], at: usize, out: &mut Output) -> usize
+    requires { HeadThere image.now at out.old.pos }
+    ensures first { result ≡ (head_at image.now at).first }
+    ensures put { Puts (list_bytes (payload_steps (kind_at image.now at) (part (at + 13) (head_at image.now at).first image.now)))
+        out.old.pos out.old.bytes.now out.new.pos out.new.bytes.now }
+    ensures same { out.new.bytes.ghost_name ≡ out.old.bytes.ghost_name }
 {
-    let kind = usize::from(image[at + LENGTH]);
-    if kind == TEXT {
-        let text = at + HEAD + WIDTH;
+    let first = at + HEAD;
+    let Some(kind) = Kind::of(image[at + LENGTH]) else {
+        return first;
+    };
+    if kind.is_text() {
+        let text = first + WIDTH;
         let stop = at + LENGTH + num32(image, at);
-        put(out, pos, Code::Text as u8);
-        copy(&image[at + HEAD..text], out, pos + 1);
-        put32(out, pos + 3, stop - text);
-        copy(&image[text..stop], out, pos + TEXT_BYTES);
-        return pos + TEXT_BYTES + (stop - text);
+        out.put(Code::Text as u8);
+        out.copy(&image[first..text]);
+        out.put32(stop - text);
+        out.copy(&image[text..stop]);
+        return stop;
     }
-    if has_byte(kind) {
-        put(out, pos, Code::Payload as u8);
-        put(out, pos + 1, image[at + HEAD]);
-        return pos + 2;
+    if kind.has_byte() {
+        out.put(Code::Payload as u8);
+        out.put(image[first]);
+        return first + 1;
     }
-    pos
+    first
 }
 
 // Puts the steps of the child at `at`, which is absent or a record.
 #[cycle(listing)]
-fn list_tree(image: &[u8], at: usize, out: &mut [u8], pos: usize) -> usize
-    requires { TreeThere image.now at pos }
-    ensures { PutsTree image.now at pos out.old result out.new }
+fn list_tree(image: &[u8], at: usize, out: &mut Output)
+    requires { TreeThere image.now at out.old.pos }
+    ensures put { PutsTree image.now at out.old.pos out.old.bytes.now out.new.pos out.new.bytes.now }
+    ensures same { out.new.bytes.ghost_name ≡ out.old.bytes.ghost_name }
 {
     let n = num32(image, at);
     if n == 0 {
-        put(out, pos, Code::Absent as u8);
-        return pos + 1;
+        out.put(Code::Absent as u8);
+        return;
     }
-    let stop = at + LENGTH + n;
-    put(out, pos, Code::Open as u8);
-    copy(&image[at + LENGTH..at + HEAD], out, pos + 1);
-    let inner = list_payload(image, at, out, pos + OPEN_BYTES);
-    let first = first_child(usize::from(image[at + LENGTH]), at + HEAD, stop);
-    let last = list_trees(image, first, stop, out, inner);
-    put(out, last, Code::Close as u8);
-    last + 1
+    out.put(Code::Open as u8);
+    out.copy(&image[at + LENGTH..at + HEAD]);
+    let first = list_payload(image, at, out);
+    list_trees(image, first, at + LENGTH + n, out);
+    out.put(Code::Close as u8);
 }
 
 // Puts the steps of the children from `first` to `stop`.
 #[cycle(listing)]
-fn list_trees(image: &[u8], first: usize, stop: usize, out: &mut [u8], start: usize) -> usize
-    requires { RowThere image.now first stop start }
-    ensures { PutsRow image.now first stop start out.old result out.new }
+fn list_trees(image: &[u8], first: usize, stop: usize, out: &mut Output)
+    requires { RowThere image.now first stop out.old.pos }
+    ensures put { PutsRow image.now first stop out.old.pos out.old.bytes.now out.new.pos out.new.bytes.now }
+    ensures same { out.new.bytes.ghost_name ≡ out.old.bytes.ghost_name }
 {
     let mut at = first;
-    let mut pos = start;
+    // kept: as a loop: where a child ends is read from it, so that no range or iterator has the next place.
     while at < stop {
-        pos = list_tree(image, at, out, pos);
+        list_tree(image, at, out);
         at += LENGTH + num32(image, at);
     }
-    pos
 }
 
 // Puts the steps of the comments.
-fn list_comments(image: &[u8], count: usize, out: &mut [u8]) -> usize
-    requires { (7 + 8 * count ≤ length image.now) × (count ≤ 8192) }
-    ensures { Puts (list_bytes (map (λ x. comment_step x.start x.end) (pairs_at image.now count 7))) 0 out.old result out.new }
+fn list_comments(image: &[u8], count: usize, out: &mut Output)
+    requires there { (7 + 8 * count ≤ length image.now) × (count ≤ 8192) }
+    requires fresh { out.old.pos ≡ 0 }
+    ensures put { Puts (list_bytes (map (λ x. comment_step x.start x.end) (pairs_at image.now count 7)))
+        0 out.old.bytes.now out.new.pos out.new.bytes.now }
+    ensures same { out.new.bytes.ghost_name ≡ out.old.bytes.ghost_name }
 {
     for i in 0..count {
         let at = PAIRS + PAIR * i;
-        let pos = COMMENT_BYTES * i;
-        put(out, pos, Code::Comment as u8);
-        copy(&image[at..at + PAIR], out, pos + 1);
+        out.put(Code::Comment as u8);
+        out.copy(&image[at..at + PAIR]);
     }
-    COMMENT_BYTES * count
 }
 
 // Puts the steps of an image with `count` comments and its tree at `tree`, and answers how many bytes they have.
-pub(crate) fn list_image(image: &[u8], count: usize, tree: usize, out: &mut [u8]) -> usize
+pub(crate) fn list_image(image: &[u8], count: usize, tree: usize, bytes: &mut [u8]) -> usize
     requires { ImageThere image.now count tree }
-    ensures { PutsImage image.now out.old result out.new }
+    ensures { PutsImage image.now bytes.old result bytes.new }
 {
-    let pos = list_comments(image, count, out);
-    list_tree(image, tree, out, pos)
+    let mut out = Output { bytes, pos: 0 };
+    list_comments(image, count, &mut out);
+    list_tree(image, tree, &mut out);
+    out.pos
 }

@@ -1,50 +1,98 @@
-// Bytes put into an output. Those past its end are dropped, so that a run over an output without room counts what it needs.
-ghost use Rattle.std.specs.Prelude.{◌≡◌, ◌+◌, ◌-◌, ◌%◌, ◌≤◌, ◌<◌, ◌^◌, length, set};
+// Bytes put into an output.
+ghost use Rattle.std.specs.Prelude.{◌≡◌, [], ◌∷◌, ◌+◌, ◌-◌, ◌%◌, ◌≤◌, ◌<◌, ◌^◌, length, set};
 ghost use Rattle.std.proofs.lemmas.List.Edits.{sets};
 ghost use Rattle.image.specs.Write.{bytes4};
 ghost use Rattle.steps.specs.Steps.{bytes2};
+ghost use Rattle.writer.specs.Appends.{Appends, Sets};
 
-// Where the list goes on, and the place behind what was put.
-#[derive(Clone, Copy)]
-pub struct Reached {
-    pub at: usize,
-    pub pos: usize,
-}
-
-pub(crate) fn put(out: &mut [u8], pos: usize, x: u8)
-    ensures { out.new ≡ set out.old pos x }
+// Sets the byte at a place.
+fn set(out: &mut [u8], pos: usize, byte: u8)
+    ensures { out.new ≡ set out.old pos byte }
 {
     if pos < out.len() {
-        out[pos] = x;
+        out[pos] = byte;
     }
 }
 
-// A number of two bytes, big-endian.
-pub(crate) fn put16(out: &mut [u8], pos: usize, n: usize)
-    requires { (pos + 2 < 2 ^ 64) × (n < 2 ^ 16) }
-    ensures { out.new ≡ sets out.old pos (bytes2 n) }
+// Sets bytes from a place on, as far as there is room. (Made part of its callers: most give a number of bytes that is known there.)
+#[inline(always)]
+fn set_all(out: &mut [u8], pos: usize, bytes: &[u8])
+    ensures { out.new ≡ sets out.old pos bytes.now }
 {
-    put(out, pos, (n / 256) as u8);
-    put(out, pos + 1, (n % 256) as u8);
+    if out.len() <= pos {
+        return;
+    }
+    let room = out.len() - pos;
+    if bytes.len() <= room {
+        out[pos..pos + bytes.len()].copy_from_slice(bytes);
+    } else {
+        out[pos..].copy_from_slice(&bytes[..room]);
+    }
 }
 
-// The low four bytes of a number, big-endian.
-pub(crate) fn put32(out: &mut [u8], pos: usize, n: usize)
-    requires { pos + 4 < 2 ^ 64 }
+// Sets the low four bytes of a number, big-endian, at a place.
+fn set_number(out: &mut [u8], pos: usize, n: usize)
     ensures { out.new ≡ sets out.old pos (bytes4 (n % 4294967296)) }
 {
-    put(out, pos, (n / 16777216 % 256) as u8);
-    put(out, pos + 1, (n / 65536 % 256) as u8);
-    put(out, pos + 2, (n / 256 % 256) as u8);
-    put(out, pos + 3, (n % 256) as u8);
+    let bytes = [
+        (n / 16777216 % 256) as u8,
+        (n / 65536 % 256) as u8,
+        (n / 256 % 256) as u8,
+        (n % 256) as u8,
+    ];
+    set_all(out, pos, &bytes);
 }
 
-// Bytes, one behind the other.
-pub(crate) fn copy(x: &[u8], out: &mut [u8], pos: usize)
-    requires { pos + length x.now < 2 ^ 64 }
-    ensures { out.new ≡ sets out.old pos x.now }
-{
-    for (i, byte) in x.iter().enumerate() {
-        put(out, pos + i, *byte);
+// An output, and the place where the next byte goes. Bytes past its end are dropped, so that a run over an output without room counts what it
+// needs.
+#[derive(Drop)]
+pub struct Output<'a> {
+    pub bytes: &'a mut [u8],
+    pub pos: usize,
+}
+
+impl Output<'_> {
+    // Sets the low four bytes of a number, big-endian, at a place.
+    pub(crate) fn set32(&mut self, pos: usize, n: usize)
+        ensures { Sets (bytes4 (n % 4294967296)) pos self.old self.new }
+    {
+        set_number(self.bytes, pos, n);
+    }
+
+    // Puts a byte.
+    pub(crate) fn put(&mut self, byte: u8)
+        requires { self.old.pos + 1 < 2 ^ 64 }
+        ensures { Appends (byte ∷ []) self.old self.new }
+    {
+        set(self.bytes, self.pos, byte);
+        self.pos += 1;
+    }
+
+    // Puts a number of two bytes, big-endian.
+    pub(crate) fn put16(&mut self, n: usize)
+        requires { (self.old.pos + 2 < 2 ^ 64) × (n < 2 ^ 16) }
+        ensures { Appends (bytes2 n) self.old self.new }
+    {
+        self.put((n / 256) as u8);
+        self.put((n % 256) as u8);
+    }
+
+    // Puts the low four bytes of a number, big-endian.
+    pub(crate) fn put32(&mut self, n: usize)
+        requires { self.old.pos + 4 < 2 ^ 64 }
+        ensures { Appends (bytes4 (n % 4294967296)) self.old self.new }
+    {
+        set_number(self.bytes, self.pos, n);
+        self.pos += 4;
+    }
+
+    // Puts bytes, one behind the other.
+    #[inline(always)]
+    pub(crate) fn copy(&mut self, bytes: &[u8])
+        requires { self.old.pos + length bytes.now < 2 ^ 64 }
+        ensures { Appends bytes.now self.old self.new }
+    {
+        set_all(self.bytes, self.pos, bytes);
+        self.pos += bytes.len();
     }
 }

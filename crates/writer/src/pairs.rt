@@ -7,14 +7,11 @@ ghost use Rattle.steps.specs.Writer.{step_from, pair_by, comments_from};
 ghost use Rattle.writer.specs.Put.{put_of, put_by};
 ghost use Rattle.writer.specs.Steps.{taken};
 
-use crate::output::{Reached, copy};
+use crate::output::Output;
 use crate::step::{COMMENT_BYTES, Code, stands};
 use image::bytes::num32;
 use image::limits::MAX_COMMENTS;
 use refusals::{Reason, Refused};
-
-// How many bytes a comment has in the image.
-pub(crate) const PAIR: usize = 8;
 
 // Whether the step at `at` is a comment that is neither empty nor reversed.
 #[tactic(auto, using(crate::proofs::Seen::room_for))]
@@ -30,13 +27,14 @@ fn pair_fits(steps: &[u8], at: usize) -> bool
 
 // Puts the comments, up to the first other step.
 #[tactic(auto, using(crate::proofs::Seen::room_for, crate::proofs::Commented::pair_fits))]
-pub(crate) fn put_comments(steps: &[u8], out: &mut [u8], start: usize) -> Result<Reached, Refused>
-    requires { start ≤ 7 }
-    ensures { put_of result out.new ≡ put_by pair_bytes start out.old (comments_from steps.now MAX_COMMENTS 0) }
+pub(crate) fn put_comments(steps: &[u8], out: &mut Output) -> Result<usize, Refused>
+    requires { out.old.pos ≤ 7 }
+    ensures put { put_of result out.new ≡ put_by pair_bytes out.old.pos out.old.bytes.now (comments_from steps.now MAX_COMMENTS 0) }
+    ensures same { out.new.bytes.ghost_name ≡ out.old.bytes.ghost_name }
 {
     let mut left = MAX_COMMENTS;
     let mut at = 0;
-    let mut pos = start;
+    // kept: as a loop: it goes on by what it reads, so that no range has its end.
     while stands(steps, at, Code::Comment, 1) {
         if left == 0 {
             return Err(Reason::Steps.at(at));
@@ -44,10 +42,9 @@ pub(crate) fn put_comments(steps: &[u8], out: &mut [u8], start: usize) -> Result
         if !pair_fits(steps, at) {
             return Err(Reason::Steps.at(at));
         }
-        copy(&steps[at + 1..at + COMMENT_BYTES], out, pos);
+        out.copy(&steps[at + 1..at + COMMENT_BYTES]);
         left -= 1;
         at += COMMENT_BYTES;
-        pos += PAIR;
     }
-    Ok(Reached { at, pos })
+    Ok(at)
 }

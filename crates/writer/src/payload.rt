@@ -1,21 +1,26 @@
 // The payload of a record, directly behind the step that opens it.
 ghost use Rattle.std.specs.Prelude.{◌≡◌, ◌+◌, ◌≤◌};
+ghost use Rattle.image.specs.KindNumbers.{kind_number};
+ghost use Rattle.image.specs.Places.{due_number};
 ghost use Rattle.image.specs.Read.{bind};
 ghost use Rattle.steps.specs.Writer.{step_from, text_by, byte_by, payload_from};
 ghost use Rattle.writer.specs.Put.{AtRecord, put_of, put_by};
 
-use crate::output::{Reached, copy, put};
-use crate::step::{Code, TEXT_BYTES, WIDTH, stands};
+use crate::output::Output;
+use crate::step::{Code, TEXT_BYTES, stands};
 use image::bytes::num32;
-use image::grammar::{has_byte, is_text, top_byte};
-use image::kinds::TEXT;
+use image::grammar::{Due, is_text};
+use image::kinds::Kind;
 use refusals::{Reason, Refused};
+
+// kept: four functions ask `AtRecord`, here and in records.rt. It is no invariant of a value: between children the output may be a byte past that bound.
 
 // Puts the width and the text of the step at `at`.
 #[tactic(auto, using(crate::proofs::Seen::room_for))]
-fn put_text(steps: &[u8], at: usize, out: &mut [u8], pos: usize) -> Result<Reached, Refused>
-    requires { AtRecord steps.now at pos }
-    ensures { put_of result out.new ≡ put_by (λ x. x) pos out.old (bind (step_from steps.now at) (text_by at)) }
+fn put_text(steps: &[u8], at: usize, out: &mut Output) -> Result<usize, Refused>
+    requires { AtRecord steps.now at out.old.pos }
+    ensures put { put_of result out.new ≡ put_by (λ x. x) out.old.pos out.old.bytes.now (bind (step_from steps.now at) (text_by at)) }
+    ensures same { out.new.bytes.ghost_name ≡ out.old.bytes.ghost_name }
 {
     if !stands(steps, at, Code::Text, TEXT_BYTES) {
         return Err(Reason::Steps.at(at));
@@ -28,56 +33,46 @@ fn put_text(steps: &[u8], at: usize, out: &mut [u8], pos: usize) -> Result<Reach
     if !is_text(steps, at + TEXT_BYTES, end) {
         return Err(Reason::Steps.at(at));
     }
-    copy(&steps[at + 1..at + 3], out, pos);
-    copy(&steps[at + TEXT_BYTES..end], out, pos + WIDTH);
-    Ok(Reached {
-        at: end,
-        pos: pos + WIDTH + n,
-    })
+    out.copy(&steps[at + 1..at + 3]);
+    out.copy(&steps[at + TEXT_BYTES..end]);
+    Ok(end)
 }
 
 // Puts the payload byte of the step at `at`, which is `top` at most.
 #[tactic(auto, using(crate::proofs::Seen::room_for))]
-fn put_byte(
-    steps: &[u8],
-    top: usize,
-    at: usize,
-    out: &mut [u8],
-    pos: usize,
-) -> Result<Reached, Refused>
-    requires { AtRecord steps.now at pos }
-    ensures { put_of result out.new ≡ put_by (λ x. x) pos out.old (bind (step_from steps.now at) (byte_by at top)) }
+fn put_byte(steps: &[u8], top: u8, at: usize, out: &mut Output) -> Result<usize, Refused>
+    requires { AtRecord steps.now at out.old.pos }
+    ensures put { put_of result out.new ≡ put_by (λ x. x) out.old.pos out.old.bytes.now (bind (step_from steps.now at) (byte_by at top)) }
+    ensures same { out.new.bytes.ghost_name ≡ out.old.bytes.ghost_name }
 {
     if !stands(steps, at, Code::Payload, 2) {
         return Err(Reason::Steps.at(at));
     }
-    if top < usize::from(steps[at + 1]) {
+    if top < steps[at + 1] {
         return Err(Reason::Steps.at(at));
     }
-    put(out, pos, steps[at + 1]);
-    Ok(Reached {
-        at: at + 2,
-        pos: pos + 1,
-    })
+    out.put(steps[at + 1]);
+    Ok(at + 2)
 }
 
-// Puts the payload of a record of this kind at place p.
+// Puts the payload of a record of this kind where this is due.
+#[tactic(auto, using(crate::proofs::Runs::none_held), unfolding(steps::specs::Writer::payload_from))]
 pub(crate) fn put_payload(
     steps: &[u8],
-    p: usize,
-    kind: usize,
+    due: Due,
+    kind: Kind,
     at: usize,
-    out: &mut [u8],
-    pos: usize,
-) -> Result<Reached, Refused>
-    requires { AtRecord steps.now at pos }
-    ensures { put_of result out.new ≡ put_by (λ x. x) pos out.old (payload_from steps.now p kind at) }
+    out: &mut Output,
+) -> Result<usize, Refused>
+    requires { AtRecord steps.now at out.old.pos }
+    ensures put { put_of result out.new ≡ put_by (λ x. x) out.old.pos out.old.bytes.now (payload_from steps.now (due_number due) (kind_number kind) at) }
+    ensures same { out.new.bytes.ghost_name ≡ out.old.bytes.ghost_name }
 {
-    if kind == TEXT {
-        return put_text(steps, at, out, pos);
+    if kind.is_text() {
+        return put_text(steps, at, out);
     }
-    if has_byte(kind) {
-        return put_byte(steps, top_byte(p, kind), at, out, pos);
+    if kind.has_byte() {
+        return put_byte(steps, due.top_byte(kind), at, out);
     }
-    Ok(Reached { at, pos })
+    Ok(at)
 }

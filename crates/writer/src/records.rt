@@ -1,130 +1,108 @@
 // The records of a list of steps.
-ghost use Rattle.std.specs.Prelude.{◌≡◌, suc, length};
+ghost use Rattle.std.specs.Prelude.{◌≡◌, false, suc, length};
+ghost use Rattle.image.specs.Places.{due_number, row_number};
 ghost use Rattle.image.specs.Write.{written, writtens};
 ghost use Rattle.steps.specs.Writer.{record_from, children_from};
-ghost use Rattle.writer.specs.Steps.{child_from};
-ghost use Rattle.writer.specs.Put.{AtRecord, AtChildren, put_of, put_by, child_of, child_by};
+ghost use Rattle.writer.specs.Steps.{stands, child_from};
+ghost use Rattle.writer.specs.Put.{AtRecord, AtChildren, put_of, put_by, child_by};
 
-use crate::output::{Reached, copy, put32};
+use crate::output::Output;
 use crate::payload::put_payload;
-use crate::step::{Code, OPEN_BYTES, opens, stands};
-use image::grammar::{after_row, bare, is_optional, is_over, place, row_under};
+use crate::step::{Code, OPEN_BYTES, opened_kind, stands};
+use image::grammar::{Due, Place, after_row, is_over};
+use image::sizes::LENGTH;
 use refusals::{Reason, Refused};
 
-// How many bytes a record's length has, and all before its payload.
-pub(crate) const LENGTH: usize = 4;
+// kept: `steps`, `at` and `out` go together. As one value they would be lent together, and what each function answers, where the list goes on, would
+// be a field of it: no line is saved, and a refusal's place would have to be kept before the value moves on.
 
-pub(crate) const HEAD: usize = 13;
-
-// What stands where a child may: the step that closes the record, with what is behind it; or a child that was put.
-// kept: neither is a failure of the other, so that a Result would say less.
-#[derive(Clone, Copy)]
-pub enum Child {
-    Closed(usize),
-    Laid(Reached),
-}
-
-// Puts the child at the row's first place.
+// Puts the child at the row's first place, where the record is not closed.
 #[cycle(putting)]
-#[tactic(auto, using(crate::proofs::Seen::room_for, crate::proofs::Bounds::optional_place))]
+#[tactic(auto, using(crate::proofs::Seen::room_for))]
 fn put_child(
     steps: &[u8],
     left: u32,
-    row: usize,
+    row: &'static [Place],
     at: usize,
-    out: &mut [u8],
-    pos: usize,
-) -> Result<Child, Refused>
-    requires { AtChildren steps.now row at pos }
-    ensures { child_of result out.new ≡ child_by pos out.old (child_from (record_from steps.now left) steps.now row at) }
+    out: &mut Output,
+) -> Result<usize, Refused>
+    requires due { AtChildren steps.now (row_number row.now) at out.old.pos }
+    requires open { stands steps.now at 6 1 ≡ false }
+    ensures put { put_of result out.new
+        ≡ child_by out.old.pos out.old.bytes.now (child_from (record_from steps.now left) steps.now (row_number row.now) at) }
+    ensures same { out.new.bytes.ghost_name ≡ out.old.bytes.ghost_name }
 {
-    if stands(steps, at, Code::Close, 1) {
-        if is_over(row) {
-            return Ok(Child::Closed(at + 1));
-        }
+    let Some(place) = row.first() else {
         return Err(Reason::Steps.at(at));
-    }
+    };
     if stands(steps, at, Code::Absent, 1) {
-        if is_optional(place(row)) {
-            put32(out, pos, 0);
-            return Ok(Child::Laid(Reached {
-                at: at + 1,
-                pos: pos + LENGTH,
-            }));
+        if place.is_optional() {
+            out.put32(0);
+            return Ok(at + 1);
         }
         return Err(Reason::Steps.at(at));
     }
     if !stands(steps, at, Code::Open, OPEN_BYTES) {
         return Err(Reason::Steps.at(at));
     }
-    if row == 0 {
-        return Err(Reason::Steps.at(at));
-    }
-    let r = put_record(steps, left, bare(place(row)), at, out, pos)?;
-    Ok(Child::Laid(r))
+    let end = put_record(steps, left, place.due(), at, out)?;
+    Ok(end)
 }
 
-// Puts the children of a record, at the places of a row, up to the step that closes it.
+// Puts the children of a record, at these places, up to the step that closes it.
 #[cycle(putting)]
 fn put_children(
     steps: &[u8],
     left: u32,
-    places: usize,
+    places: &'static [Place],
     first: usize,
-    out: &mut [u8],
-    start: usize,
-) -> Result<Reached, Refused>
-    requires { AtChildren steps.now places first start }
-    ensures { put_of result out.new ≡ put_by writtens start out.old (children_from (record_from steps.now left) steps.now (suc (length steps.now)) places first) }
+    out: &mut Output,
+) -> Result<usize, Refused>
+    requires { AtChildren steps.now (row_number places.now) first out.old.pos }
+    ensures put { put_of result out.new
+        ≡ put_by writtens out.old.pos out.old.bytes.now
+        (children_from (record_from steps.now left) steps.now (suc (length steps.now)) (row_number places.now) first) }
+    ensures same { out.new.bytes.ghost_name ≡ out.old.bytes.ghost_name }
 {
     let mut row = places;
     let mut at = first;
-    let mut pos = start;
-    loop {
-        match put_child(steps, left, row, at, out, pos)? {
-            Child::Closed(end) => {
-                return Ok(Reached { at: end, pos });
-            }
-            Child::Laid(r) => {
-                row = after_row(row);
-                at = r.at;
-                pos = r.pos;
-            }
-        }
+    // kept: as a loop: where a child ends is read from it, so that no range or iterator has the next place.
+    while !stands(steps, at, Code::Close, 1) {
+        at = put_child(steps, left, row, at, out)?;
+        row = after_row(row);
     }
+    if !is_over(row) {
+        return Err(Reason::Steps.at(at));
+    }
+    Ok(at + 1)
 }
 
-// Puts the record that the step at `at` opens, at place p, and its length where it is closed; `left` levels of records are left.
+// Puts the record that the step at `at` opens, where this is due, and its length where it is closed; `left` levels of records are left.
 #[cycle(putting)]
 #[tactic(auto, using(crate::proofs::Seen::opened_room))]
 pub(crate) fn put_record(
     steps: &[u8],
     left: u32,
-    p: usize,
+    due: Due,
     at: usize,
-    out: &mut [u8],
-    pos: usize,
-) -> Result<Reached, Refused>
-    requires { AtRecord steps.now at pos }
-    ensures { put_of result out.new ≡ put_by written pos out.old (record_from steps.now left p at) }
+    out: &mut Output,
+) -> Result<usize, Refused>
+    requires { AtRecord steps.now at out.old.pos }
+    ensures put { put_of result out.new
+        ≡ put_by written out.old.pos out.old.bytes.now (record_from steps.now left (due_number due) at) }
+    ensures same { out.new.bytes.ghost_name ≡ out.old.bytes.ghost_name }
 {
     if left == 0 {
         return Err(Reason::Steps.at(at));
     }
-    if !opens(steps, p, at) {
+    let Some(kind) = opened_kind(steps, due, at) else {
         return Err(Reason::Steps.at(at));
-    }
-    let kind = usize::from(steps[at + 1]);
-    copy(&steps[at + 1..at + OPEN_BYTES], out, pos + LENGTH);
-    let payload = put_payload(steps, p, kind, at + OPEN_BYTES, out, pos + HEAD)?;
-    let children = put_children(
-        steps,
-        left - 1,
-        row_under(p, kind),
-        payload.at,
-        out,
-        payload.pos,
-    )?;
-    put32(out, pos, children.pos - pos - LENGTH);
-    Ok(children)
+    };
+    let start = out.pos;
+    out.pos += LENGTH;
+    out.copy(&steps[at + 1..at + OPEN_BYTES]);
+    let first = put_payload(steps, due, kind, at + OPEN_BYTES, out)?;
+    let end = put_children(steps, left - 1, due.row_under(kind), first, out)?;
+    out.set32(start, out.pos - start - LENGTH);
+    Ok(end)
 }

@@ -1,24 +1,22 @@
 // The image of a whole list: measured first, then put.
-ghost use Rattle.std.specs.Prelude.{◌≡◌, length};
+ghost use Rattle.std.specs.Prelude.{◌≡◌, ◌≤◌, length};
+ghost use Rattle.writer.specs.Put.{AtRecord};
+ghost use Rattle.writer.specs.Parts.{TreePut, FrontPut};
 ghost use Rattle.std.proofs.lemmas.List.Edits.{sets};
 ghost use Rattle.refusals.specs.Reasons.{answer_of};
 ghost use Rattle.steps.specs.Writer.{contents_from, image_due};
 ghost use Rattle.writer.specs.Wrote.{measured, Room};
 
-use crate::output::{put, put16, put32};
-use crate::pairs::{PAIR, put_comments};
+use crate::output::Output;
+use crate::pairs::put_comments;
 use crate::records::put_record;
 use crate::step::COMMENT_BYTES;
-use image::kinds::TREE;
+use image::grammar::Due;
 use image::limits::MAX_RECORDS_DEEP;
+use image::sizes::{HEADER, PAIR, PAIRS};
 use refusals::{Reason, Refused};
 
 const VERSION: u8 = 1;
-
-// How many bytes an image has before its body, and before its comments.
-pub(crate) const HEADER: usize = 5;
-
-pub(crate) const PAIRS: usize = 7;
 
 // The offset of the step that opens the tree, and how many bytes the image has.
 #[derive(Clone, Copy)]
@@ -32,15 +30,40 @@ pub(crate) fn measure(steps: &[u8]) -> Result<Measured, Refused>
     ensures { answer_of (λ m. m) result ≡ measured (contents_from steps.now) }
 {
     let mut none = [0u8; 1];
-    let comments = put_comments(steps, &mut none, 0)?;
-    let tree = put_record(steps, MAX_RECORDS_DEEP, TREE, comments.at, &mut none, 0)?;
-    if tree.at < steps.len() {
-        return Err(Reason::Steps.at(tree.at));
+    let mut out = Output {
+        bytes: &mut none,
+        pos: 0,
+    };
+    let tree = put_comments(steps, &mut out)?;
+    let end = put_record(steps, MAX_RECORDS_DEEP, Due::Tree, tree, &mut out)?;
+    if end < steps.len() {
+        return Err(Reason::Steps.at(end));
     }
     Ok(Measured {
-        tree: comments.at,
-        bytes: PAIRS + comments.pos + tree.pos,
+        tree,
+        bytes: PAIRS + out.pos,
     })
+}
+
+// Puts the tree of a list that was measured.
+fn put_tree(steps: &[u8], at: usize, bytes: &mut [u8])
+    requires { AtRecord steps.now at 0 }
+    ensures { TreePut steps.now at bytes.old bytes.new }
+{
+    let mut out = Output { bytes, pos: 0 };
+    let _ = put_record(steps, MAX_RECORDS_DEEP, Due::Tree, at, &mut out);
+}
+
+// Puts what stands before the tree: the version, the length, and the comments with their number.
+fn put_front(steps: &[u8], comments: usize, length: usize, bytes: &mut [u8])
+    requires { (5 ≤ length) × (comments ≤ 8192) }
+    ensures { FrontPut steps.now comments length bytes.old bytes.new }
+{
+    let mut out = Output { bytes, pos: 0 };
+    out.put(VERSION);
+    out.put32(length - HEADER);
+    out.put16(comments);
+    let _ = put_comments(steps, &mut out);
 }
 
 // Puts the image of a list that was measured.
@@ -49,10 +72,6 @@ pub(crate) fn put_image(steps: &[u8], at: usize, bytes: usize, out: &mut [u8])
     ensures { out.new ≡ sets out.old 0 (image_due steps.now) }
 {
     let comments = at / COMMENT_BYTES;
-    put(out, 0, VERSION);
-    put32(out, 1, bytes - HEADER);
-    put16(out, HEADER, comments);
-    let _ = put_comments(steps, out, PAIRS);
-    let tree = PAIRS + PAIR * comments;
-    let _ = put_record(steps, MAX_RECORDS_DEEP, TREE, at, &mut out[tree..], 0);
+    put_front(steps, comments, bytes, out);
+    put_tree(steps, at, &mut out[PAIRS + PAIR * comments..]);
 }

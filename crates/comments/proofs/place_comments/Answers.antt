@@ -1,75 +1,60 @@
--- The loop, and then one of three ends, by the tests that led there.
+-- The loop, and then newlines that are counted or not.
 -- Assumes nothing.
-use mathlib.Core.Path.{◌≡◌, sym, ◌∙◌}
-use mathlib.Core.Bool.{false}
-use Rattle.acts.specs.Laid.{st}
-use Rattle.comments.specs.Comments.{waits}
-use mathlib.Core.List.{[]}
-use mathlib.Core.Logic.{◌⊎◌, inl, inr}
-use Rattle.comments.proofs.place_comments.Goals.{else-waiting-via-then-waiting+else-kept, else-waiting-via-else-waiting}
-use Rattle.comments.proofs.Pops.{laid_ignored, any_image, room_comments, room_trailing, laid_trailing, room_only, laid_only, laid_neither}
-use Rattle.comments.specs.Listed.{given}
+use mathlib.Core.Path.{sym, ◌∙◌}
+use Rattle.comments.proofs.Pops.{room_comments, room_counted, laid_counted, laid_uncounted, both, not_first, first_holds, second_holds, none_holds}
+use Rattle.comments.specs.Parsed.{given_by}
+use Rattle.comments.proofs.place_comments.Goals.{then-waiting, else-waiting}
+use Rattle.comments.proofs.place_comments.Goals.{then-commented-via-then-commented, then-commented-via-else-commented+then-kept}
 use Rattle.comments.proofs.place_comments.Goals as goal
 
-pub pop_comments-d-requires : goal.pop_comments-d-requires
-pop_comments-d-requires c = record {
-  listed = c.requires.listed;
-  room = room_comments (given c.args.source.now c.args.image.now) c.args.position
-      c.args.kept.now.leading c.args.kept.now.trailing c.args.kept.now.only c.requires.room;
-}
+pub pop_comments-requires : goal.pop_comments-requires
+pop_comments-requires c =
+    let k = c.args.kept.now in
+    room_comments (given_by c.args.parsed.now) c.args.position k.leading k.trailing k.only c.requires
 
-pub newlines-after-requires : goal.newlines-after-requires
-newlines-after-requires c =
-    any_image c.args.source.now c.args.image.now [] c.args.position (room_trailing
-    (given c.args.source.now c.args.image.now) c.args.position c.args.kept.now.leading c.args.kept.now.trailing
-    c.args.kept.now.only (sym (c.is_waiting-waiting.ensures c.args.source.now) ∙ c.if-waiting.true)
-    c.if-kept.true c.pop_comments-d.ensures c.requires.room)
-
-pub returns-then-kept : goal.returns-then-kept
-returns-then-kept c =
-    let a = c.args in
-    let asked = c.is_waiting-waiting.ensures in
-    let popped = c.pop_comments-d.ensures in
-    let waits = sym (asked a.source.now) ∙ c.if-waiting.true in
-    rw (c.gap_of.ensures.0, c.gap_of.ensures.1)
-    (laid_trailing (given a.source.now a.image.now) a.position a.kept.now.leading a.kept.now.only waits
-    c.if-kept.true popped (c.newlines-after.ensures a.image.now))
-
-pub newlines-alone-requires : goal.newlines-alone-requires
-newlines-alone-requires c =
-    any_image c.args.source.now c.args.image.now [] c.args.position (room_only
-    (given c.args.source.now c.args.image.now) c.args.position c.args.kept.now.leading c.args.kept.now.trailing c.args.kept.now.only
-    (elim c.else-waiting.branch [
-      | else-waiting-via-then-waiting+else-kept w ↦ inl w.if-kept.false
-      | else-waiting-via-else-waiting w ↦ inr (sym (c.is_waiting-waiting.ensures c.args.source.now) ∙ w.if-waiting.false)
+pub newlines-newlines-requires : goal.newlines-newlines-requires
+newlines-newlines-requires c =
+    let k = c.args.kept.now in
+    room_counted (given_by c.args.parsed.now) c.args.position k.leading k.trailing k.only
+    (elim c.if-waiting.branch [
+      | then-waiting w ↦ both (sym c.is_waiting-waiting.ensures ∙ w.if-waiting.true) w.commented-is
+      | else-waiting w ↦ not_first k.trailing (sym c.is_waiting-waiting.ensures ∙ w.if-waiting.false) (w.commented-is ∙ w.if-waiting.false)
     ])
-    c.if-kept-2.true c.pop_comments-d.ensures c.requires.room)
+    (elim c.then-commented.branch [
+      | then-commented-via-then-commented w ↦ first_holds k.only w.if-commented.true
+      | then-commented-via-else-commented+then-kept w ↦ second_holds w.if-commented.false w.if-kept.true
+    ])
+    c.pop_comments.ensures.laid c.requires
 
-pub returns-then-kept-2 : goal.returns-then-kept-2
-returns-then-kept-2 c =
-    let a = c.args in
-    let asked = c.is_waiting-waiting.ensures in
-    let popped = c.pop_comments-d.ensures in
-    let neither : (a.kept.now.trailing ≡ false) ⊎ (waits (given a.source.now a.image.now) a.position (st a.c) ≡ false) =
-    elim c.else-waiting.branch [
-      | else-waiting-via-then-waiting+else-kept w ↦ inl w.if-kept.false
-      | else-waiting-via-else-waiting w ↦ inr (sym (asked a.source.now) ∙ w.if-waiting.false)
-    ] in
-    rw (c.gap_of-then-kept-2.ensures.0, c.gap_of-then-kept-2.ensures.1)
-    (laid_only (given a.source.now a.image.now) a.position a.kept.now.leading a.kept.now.trailing neither
-    c.if-kept-2.true popped (c.newlines-alone.ensures a.image.now))
+pub returns-then-commented : goal.returns-then-commented
+returns-then-commented c =
+    let k = c.args.kept.now in
+    record {
+      laid =
+          laid_counted (given_by c.args.parsed.now) c.args.position k.leading k.trailing k.only
+          (elim c.if-waiting.branch [
+            | then-waiting w ↦ both (sym c.is_waiting-waiting.ensures ∙ w.if-waiting.true) w.commented-is
+            | else-waiting w ↦ not_first k.trailing (sym c.is_waiting-waiting.ensures ∙ w.if-waiting.false) (w.commented-is ∙ w.if-waiting.false)
+          ])
+          (elim c.then-commented.branch [
+            | then-commented-via-then-commented w ↦ first_holds k.only w.if-commented.true
+            | then-commented-via-else-commented+then-kept w ↦ second_holds w.if-commented.false w.if-kept.true
+          ])
+          c.pop_comments.ensures.laid c.newlines-newlines.ensures.laid;
+      same = cc (c.pop_comments.ensures.same, c.newlines-newlines.ensures.same);
+    }
 
 pub returns : goal.returns
 returns c =
-    let a = c.args in
-    let g = given a.source.now a.image.now in
-    let asked = c.is_waiting-waiting.ensures in
-    let popped = c.pop_comments-d.ensures in
-    let neither : (a.kept.now.trailing ≡ false) ⊎ (waits g a.position (st a.c) ≡ false) =
-    elim c.else-waiting.branch [
-      | else-waiting-via-then-waiting+else-kept w ↦ inl w.if-kept.false
-      | else-waiting-via-else-waiting w ↦ inr (sym (asked a.source.now) ∙ w.if-waiting.false)
-    ] in
+    let k = c.args.kept.now in
     rw c.uncounted.ensures
-    (laid_neither g a.position a.kept.now.leading a.kept.now.trailing neither c.if-kept-2.false popped
-    (laid_ignored g a.position (c.ignore_newlines.ensures a.source.now)))
+    (record {
+      laid =
+          laid_uncounted (given_by c.args.parsed.now) c.args.position k.leading k.trailing k.only
+          (elim c.if-waiting.branch [
+            | then-waiting w ↦ both (sym c.is_waiting-waiting.ensures ∙ w.if-waiting.true) w.commented-is
+            | else-waiting w ↦ not_first k.trailing (sym c.is_waiting-waiting.ensures ∙ w.if-waiting.false) (w.commented-is ∙ w.if-waiting.false)
+          ])
+          (none_holds c.if-commented.false c.if-kept.false) c.pop_comments.ensures.laid c.ignore_newlines.ensures.laid;
+      same = cc (c.pop_comments.ensures.same, c.ignore_newlines.ensures.same);
+    })

@@ -4,32 +4,33 @@ use native.Mathlib.Omega.{arith}
 use Rattle.comments.proofs.Fronts.{inside, good}
 use Rattle.comments.proofs.Pops.{laid_comment, room_gap, room_remark}
 use Rattle.tree.specs.CommentList.{span}
-use Rattle.comments.specs.Listed.{given}
+use Rattle.comments.specs.Parsed.{given_by}
 use Rattle.comments.proofs.pop_comment.Goals as goal
 
-pub overflow_add-c : goal.overflow_add-c
-overflow_add-c c = omega (arith, inside _ _ _ c.requires.placed_value, c.requires.listed.few)
+pub pop_front-requires : goal.pop_front-requires
+pop_front-requires c = omega (arith, inside _ _ _ c.requires.placed_value, c.args.parsed.now.listed.few)
 
-pub before_comment-d-requires : goal.before_comment-d-requires
-before_comment-d-requires c = record {
-  list_fits = c.requires.listed.within;
-  room = room_gap (given c.args.source.now c.args.image.now) c.args.leading
-      (span c.args.comment.start c.args.comment.end) c.args.store.now c.with_placed-popped.ensures c.requires.room;
-}
+pub before_comment-requires : goal.before_comment-requires
+before_comment-requires c =
+    room_gap (given_by c.args.parsed.now) c.args.leading (span c.args.comment.start c.args.comment.end) c.pop_front.ensures.laid c.requires.room
 
 pub overflow_sub-comment : goal.overflow_sub-comment
-overflow_sub-comment c =
-    omega (arith, (good c.requires.listed _ _ c.requires.placed_value).order)
+overflow_sub-comment c = omega (arith, (good c.args.parsed.now.listed _ _ c.requires.placed_value).order)
 
 pub push_comment-requires : goal.push_comment-requires
-push_comment-requires c = record {
-  start_le_end = omega (arith, (good c.requires.listed _ _ c.requires.placed_value).order);
-  room = room_remark (given c.args.source.now c.args.image.now) c.args.leading (span c.args.comment.start c.args.comment.end)
-      c.with_placed-popped.ensures c.before_comment-d.ensures c.move_to.ensures c.requires.room;
-}
+push_comment-requires c =
+    record {
+      start_le_end = omega (arith, (good c.args.parsed.now.listed _ _ c.requires.placed_value).order);
+      room =
+          room_remark (given_by c.args.parsed.now) c.args.leading (span c.args.comment.start c.args.comment.end)
+          c.pop_front.ensures.laid c.before_comment.ensures.laid c.move_to.ensures.laid c.requires.room;
+    }
 
 pub returns : goal.returns
 returns c =
-    laid_comment (given c.args.source.now c.args.image.now) c.args.leading (span c.args.comment.start c.args.comment.end)
-    c.with_placed-popped.ensures c.before_comment-d.ensures c.move_to.ensures
-    (c.push_comment.ensures c.args.image.now)
+    record {
+      laid =
+          laid_comment (given_by c.args.parsed.now) c.args.leading (span c.args.comment.start c.args.comment.end)
+          c.pop_front.ensures.laid c.before_comment.ensures.laid c.move_to.ensures.laid c.push_comment.ensures.laid;
+      same = cc (c.pop_front.ensures.same, c.before_comment.ensures.same, c.move_to.ensures.same, c.push_comment.ensures.same);
+    }

@@ -3,14 +3,15 @@
 use mathlib.Core.Path.{◌≡◌}
 use Prim.Native.Nat.{◌-◌}
 use Rattle.comments.proofs.Pops.{Going}
-use Rattle.comments.specs.Listed.{given}
+use Rattle.comments.specs.Parsed.{given_by}
 use Rattle.image.specs.Bytes.{be16}
-use lib.ListN.{length}
 use Rattle.comments.proofs.pop_comments.Given as goal
 
 abbrev pub invariant-loop-comment : goal.invariant-loop-comment
 invariant-loop-comment l =
-    (length l.store ≡ length l.initial.store) × Going (given l.source l.image) l.position l.leading l.initial.store l.initial.d l.keep l.store l.d
+    let start = l.initial.state in
+    (l.state.store.ghost_name ≡ start.store.ghost_name)
+    × Going (given_by l.parsed) l.position l.leading start.store.now start.cursor l.keep l.state.store.now l.state.cursor
 
 abbrev pub decreases-loop-comment : goal.decreases-loop-comment
-decreases-loop-comment l = be16 l.image 5 - l.d.placed
+decreases-loop-comment l = be16 l.parsed.image.now 5 - l.state.cursor.placed

@@ -1,8 +1,6 @@
 -- The run of the file, and what is counted of what it leaves.
-use Rattle.std.proofs.Common.{sym}
 use Rattle.std.proofs.lemmas.Result.{err_from_is_err_and}
-use lib.Seq.{length-take-le}
-use Rattle.figures.proofs.Counting.{run_refused, text_inside, left_fits, figures_within, file_counted}
+use Rattle.figures.proofs.Counting.{run_refused, left_fits, figures_within, file_counted}
 use Rattle.figures.proofs.count_accepted.Goals as goal
 
 pub returns-in_err-run : goal.returns-in_err-run

@@ -4,13 +4,14 @@ use native.Mathlib.Omega.{arith}
 use Rattle.acts.proofs.Laws.{room_first, room_next, lays_then, lays_if, lays_else, room_if, room_else, lays, lays_skip}
 use Rattle.layout.proofs.Lays.{lays_as, laid_as, has_at, lays_tail, lays_all, laid_all, laid_tail}
 use Rattle.tree.specs.At.{ExprAt, StmtAt}
-use Rattle.acts.proofs.Nested.{opens_group, room_group, lays_group, opens_indent_next, room_indent_next, lays_indent_next, opens_indent, room_indent, opens_called, room_called, room_called_next, lays_called, lays_indent}
+use Rattle.acts.proofs.Closes.{closes_call, closes_group, closes_indent, closes_indent_next}
+use Rattle.acts.proofs.Nested.{opens_group, room_group, opens_indent_next, room_indent_next, opens_indent, room_indent, opens_called, room_called, room_called_next}
 use Rattle.layout.specs.Layout as rules
 use lib.Dec.{ltb}
 use Rattle.layout.specs.Ranks.{rank}
 use Rattle.layout.proofs.Ranks.{below_rank}
 use Rattle.layout.specs.declared.forms.Precedence.TheVariants.{Chain}
-use Rattle.layout.proofs.Places.{within, expr_whole, maybe_expr_lem, pattern_whole, ident_whole, maybe_type, head_whole, path_whole, absent, present, block_whole, maybe_block_lem, stmt_whole}
+use Rattle.layout.proofs.Places.{within, expr_whole, maybe_expr_lem, ident_whole, maybe_type, head_whole, path_whole, absent, present, block_whole, maybe_block_lem, stmt_whole}
 use Rattle.layout.proofs.ExprForms.{comma_laid, comma_room, whole_has, whole_laid, next, expr_is, expr_kind, expr_has, expr_laid}
 use Rattle.image.specs.Bytes.{be32}
 use Rattle.image.specs.Read.{stop_at}
@@ -19,7 +20,7 @@ use Rattle.ast.specs.Syntax as syntax
 use Rattle.comments.specs.Listed.{given}
 use Rattle.layout.specs.Forms.{four, expr_with}
 use Rattle.layout.proofs.Operands.{above_size, chain_room, chain_laid, chain_form, above_at, Going, going_next, operator_has, right_has, going_step, going_end}
-use Rattle.layout.proofs.Bodies.{block_parts, block_has, block_laid, body_has, body_laid, part_whole, text_has, value_has, text_laid, value_laid, parts_first, part_has, parts_rest, parts_none, parts_more, let_has, import_has, does_has, let_laid, import_stmt_lem, does_laid, stmts_first, before_stmt_room, stmt_has, after_stmt_room, stmts_rest, stmts_none, stmts_more}
+use Rattle.layout.proofs.Bodies.{block_parts, block_has, block_laid, body_has, body_laid, text_has, value_has, text_laid, value_laid, parts_first, part_has, parts_rest, parts_none, parts_more, let_has, import_has, does_has, let_laid, import_stmt_lem, does_laid, stmts_first, before_stmt_room, stmt_has, after_stmt_room, stmts_rest, stmts_none, stmts_more}
 use Rattle.layout.specs.Elems.{EntryAt, entry_rule, ArmAt, arm_rule, grouped_rule}
 use Rattle.layout.proofs.Listing.{has_each, lays_each}
 use Rattle.layout.proofs.Runs.{list_of, grouped_elems_lem, expr_elems_lem, arm_elems_lem, entry_elems_lem}
@@ -34,24 +35,19 @@ pub access-second-p-requires : goal.access-second-p-requires
 unfolding ExprAt
 access-second-p-requires t c = within (expr_whole _ _ _ c.requires.tree.1.0 c.requires.held.1.0)
 
-pub access-open_group-g-requires : goal.access-open_group-g-requires
+pub access-open-group-requires : goal.access-open-group-requires
 unfolding ExprAt rules.expr_with_precedence
-access-open_group-g-requires t c =
+access-open-group-requires t c =
     opens_group _ (room_if _ (sym (below_rank c.args.outer Chain) ∙ sym c.lt.ensures ∙ c.if-lt.true) c.requires.room)
 
-pub access-open_indent_next-i-requires : goal.access-open_indent_next-i-requires
+pub access-open-indent-requires : goal.access-open-indent-requires
 unfolding ExprAt rules.expr_with_precedence
-access-open_indent_next-i-requires t c =
-    opens_indent_next _ (room_group _ (room_if _ (sym (below_rank c.args.outer Chain) ∙ sym c.lt.ensures ∙ c.if-lt.true) c.requires.room) c.open_group-g.ensures)
+access-open-indent-requires t c =
+    opens_indent_next _ (room_group _ (room_if _ (sym (below_rank c.args.outer Chain) ∙ sym c.lt.ensures ∙ c.if-lt.true) c.requires.room) c.open-group.ensures.opened)
 
-pub access-overflow_add-at : goal.access-overflow_add-at
-unfolding ExprAt
-access-overflow_add-at t c =
-    omega (arith, c.requires.accepted.small, c.requires.held.0.long, c.requires.held.0.fits)
-
-pub access-expr_with_precedence-d-requires : goal.access-expr_with_precedence-d-requires
+pub access-expr_with_precedence-requires : goal.access-expr_with_precedence-requires
 unfolding ExprAt rules.expr_with_precedence
-access-expr_with_precedence-d-requires t c = (
+access-expr_with_precedence-requires t c = (
   omega (arith, c.decreases, c.requires.held.1.2.same),
   record {
     accepted = c.requires.accepted;
@@ -59,61 +55,8 @@ access-expr_with_precedence-d-requires t c = (
     held = c.requires.held.1.0;
     room =
         room_first _ (room_indent_next
-        (room_group _ (room_if _ (sym (below_rank c.args.outer Chain) ∙ sym c.lt.ensures ∙ c.if-lt.true) c.requires.room) c.open_group-g.ensures)
-        c.open_indent_next-i.ensures);
-  },
-)
-
-pub access-field_name-e-requires : goal.access-field_name-e-requires
-unfolding ExprAt rules.expr_with_precedence
-access-field_name-e-requires t c =
-    rw c.second-p.ensures (record {
-      accepted = c.requires.accepted;
-      tree = c.requires.tree.1.1;
-      held = c.requires.held.1.1;
-      room =
-          room_next (room_indent_next (room_group _ (room_if _ (sym (below_rank c.args.outer Chain) ∙ sym c.lt.ensures ∙ c.if-lt.true) c.requires.room) c.open_group-g.ensures)
-          c.open_indent_next-i.ensures)
-          ((lays_as c.requires.accepted c.expr_with_precedence-d.ensures).of c.requires.tree.1.0
-          c.requires.held.1.0);
-    })
-
-pub access-close-requires : goal.access-close-requires
-access-close-requires t c = tt
-
-pub access-close-requires-then-lt : goal.access-close-requires-then-lt
-access-close-requires-then-lt t c = tt
-
-pub access-returns-then-lt : goal.access-returns-then-lt
-unfolding ExprAt rules.expr_with_precedence
-access-returns-then-lt t c =
-    laid_as
-    (record {
-      of =
-          λ x a.
-          lays_if _ (sym (below_rank c.args.outer Chain) ∙ sym c.lt.ensures ∙ c.if-lt.true)
-          (lays_group _ c.open_group-g.ensures
-          (lays_indent_next c.open_indent_next-i.ensures
-          (lays_then ((lays_as c.requires.accepted c.expr_with_precedence-d.ensures).of x.1.0 a.1.0)
-          ((lays_as c.requires.accepted c.field_name-e.ensures).of x.1.1 (rw c.second-p.ensures a.1.1)))
-          c.close.ensures)
-          c.close-then-lt.ensures);
-    })
-
-pub access-overflow_add-at-2 : goal.access-overflow_add-at-2
-unfolding ExprAt
-access-overflow_add-at-2 t c =
-    omega (arith, c.requires.accepted.small, c.requires.held.0.long, c.requires.held.0.fits)
-
-pub access-expr_with_precedence-d-requires-2 : goal.access-expr_with_precedence-d-requires-2
-unfolding ExprAt rules.expr_with_precedence
-access-expr_with_precedence-d-requires-2 t c = (
-  omega (arith, c.decreases, c.requires.held.1.2.same),
-  record {
-    accepted = c.requires.accepted;
-    tree = c.requires.tree.1.0;
-    held = c.requires.held.1.0;
-    room = room_first _ (room_else _ (sym (below_rank c.args.outer Chain) ∙ sym c.lt.ensures ∙ c.if-lt.false) c.requires.room);
+        (room_group _ (room_if _ (sym (below_rank c.args.outer Chain) ∙ sym c.lt.ensures ∙ c.if-lt.true) c.requires.room) c.open-group.ensures.opened)
+        c.open-indent.ensures.opened);
   },
 )
 
@@ -125,51 +68,83 @@ access-field_name-requires t c =
       tree = c.requires.tree.1.1;
       held = c.requires.held.1.1;
       room =
+          room_next (room_indent_next (room_group _ (room_if _ (sym (below_rank c.args.outer Chain) ∙ sym c.lt.ensures ∙ c.if-lt.true) c.requires.room) c.open-group.ensures.opened)
+          c.open-indent.ensures.opened)
+          ((lays_as c.requires.accepted c.expr_with_precedence.ensures).of c.requires.tree.1.0
+          c.requires.held.1.0);
+    })
+
+pub access-returns-then-lt : goal.access-returns-then-lt
+unfolding ExprAt rules.expr_with_precedence
+access-returns-then-lt t c =
+    laid_as (cc)
+    (record {
+      of =
+          λ x a.
+          lays_if _ (sym (below_rank c.args.outer Chain) ∙ sym c.lt.ensures ∙ c.if-lt.true)
+          (closes_group _ c.open-group.ensures
+          (closes_indent_next c.open-indent.ensures
+          (lays_then ((lays_as c.requires.accepted c.expr_with_precedence.ensures).of x.1.0 a.1.0)
+          ((lays_as c.requires.accepted c.field_name.ensures).of x.1.1 (rw c.second-p.ensures a.1.1)))
+          c.close.ensures)
+          c.close-then-lt.ensures);
+    })
+
+pub access-expr_with_precedence-requires-2 : goal.access-expr_with_precedence-requires-2
+unfolding ExprAt rules.expr_with_precedence
+access-expr_with_precedence-requires-2 t c = (
+  omega (arith, c.decreases, c.requires.held.1.2.same),
+  record {
+    accepted = c.requires.accepted;
+    tree = c.requires.tree.1.0;
+    held = c.requires.held.1.0;
+    room = room_first _ (room_else _ (sym (below_rank c.args.outer Chain) ∙ sym c.lt.ensures ∙ c.if-lt.false) c.requires.room);
+  },
+)
+
+pub access-field_name-requires-2 : goal.access-field_name-requires-2
+unfolding ExprAt rules.expr_with_precedence
+access-field_name-requires-2 t c =
+    rw c.second-p.ensures (record {
+      accepted = c.requires.accepted;
+      tree = c.requires.tree.1.1;
+      held = c.requires.held.1.1;
+      room =
           room_next (room_else _ (sym (below_rank c.args.outer Chain) ∙ sym c.lt.ensures ∙ c.if-lt.false) c.requires.room) ((lays_as c.requires.accepted
-          c.expr_with_precedence-d-2.ensures).of c.requires.tree.1.0 c.requires.held.1.0);
+          c.expr_with_precedence-2.ensures).of c.requires.tree.1.0 c.requires.held.1.0);
     })
 
 pub access-returns : goal.access-returns
 unfolding ExprAt rules.expr_with_precedence
 access-returns t c =
-    laid_as
+    laid_as (cc)
     (record {
       of =
           λ x a.
           lays_else _ (sym (below_rank c.args.outer Chain) ∙ sym c.lt.ensures ∙ c.if-lt.false)
-          (lays_then ((lays_as c.requires.accepted c.expr_with_precedence-d-2.ensures).of x.1.0 a.1.0)
-          ((lays_as c.requires.accepted c.field_name.ensures).of x.1.1 (rw c.second-p.ensures a.1.1)));
+          (lays_then ((lays_as c.requires.accepted c.expr_with_precedence-2.ensures).of x.1.0 a.1.0)
+          ((lays_as c.requires.accepted c.field_name-2.ensures).of x.1.1 (rw c.second-p.ensures a.1.1)));
     })
 
-pub after-word-d-requires : goal.after-word-d-requires
-after-word-d-requires t c = room_first _ c.requires.room
+pub after-word-requires : goal.after-word-requires
+after-word-requires t c = room_first _ c.requires.room
 
 pub after-expr_with_precedence-requires : goal.after-expr_with_precedence-requires
 after-expr_with_precedence-requires t c =
-    (omega (arith, c.decreases), has_at c.requires (room_next c.requires.room (lays c.word-d.ensures)))
+    (omega (arith, c.decreases), has_at c.requires (room_next c.requires.room (lays c.word.ensures.laid)))
 
 pub after-returns : goal.after-returns
 after-returns t c =
-    laid_as (record {
-      of = λ e a. lays_then (lays c.word-d.ensures) ((lays_as c.requires.accepted c.expr_with_precedence.ensures).of e a);
+    laid_as (cc) (record {
+      of = λ e a. lays_then (lays c.word.ensures.laid) ((lays_as c.requires.accepted c.expr_with_precedence.ensures).of e a);
     })
 
-pub arm-second-p-requires : goal.arm-second-p-requires
-arm-second-p-requires t c = within (pattern_whole _ _ _ c.requires.tree.1 c.requires.held.1)
-
-pub arm-third-q-requires : goal.arm-third-q-requires
-arm-third-q-requires t c = record { second_in_image = within (pattern_whole _ _ _ c.requires.tree.1 c.requires.held.1); third_in_image = maybe_expr_lem _ _ _ c.requires.tree.2 c.requires.held.2 }
-
-pub arm-overflow_add-at : goal.arm-overflow_add-at
-arm-overflow_add-at t c =
-    omega (arith, c.requires.accepted.small, c.requires.held.0.long, c.requires.held.0.fits)
-
-pub arm-pattern-d-requires : goal.arm-pattern-d-requires
-arm-pattern-d-requires t c =
+pub arm-pattern-requires : goal.arm-pattern-requires
+arm-pattern-requires t c =
     (record { accepted = c.requires.accepted; tree = c.requires.tree.1; held = c.requires.held.1; room = room_first _ c.requires.room })
 
-pub arm-maybe-e-requires : goal.arm-maybe-e-requires
-arm-maybe-e-requires t c =
+pub arm-maybe-requires : goal.arm-maybe-requires
+arm-maybe-requires t c =
     rw c.second-p.ensures (
       omega (arith, c.decreases, c.requires.held.4.same),
       record {
@@ -178,18 +153,18 @@ arm-maybe-e-requires t c =
         held = c.requires.held.2;
         room =
             room_first _ (room_next c.requires.room
-            ((lays_as c.requires.accepted c.pattern-d.ensures).of c.requires.tree.1 c.requires.held.1));
+            ((lays_as c.requires.accepted c.pattern.ensures).of c.requires.tree.1 c.requires.held.1));
       },
     )
 
-pub arm-word-f-requires : goal.arm-word-f-requires
-arm-word-f-requires t c =
+pub arm-word-requires : goal.arm-word-requires
+arm-word-requires t c =
     room_first _ (room_next
-    (room_next c.requires.room ((lays_as c.requires.accepted c.pattern-d.ensures).of c.requires.tree.1 c.requires.held.1))
-    ((lays_as c.requires.accepted c.maybe-e.ensures).of c.requires.tree.2 (rw c.second-p.ensures c.requires.held.2)))
+    (room_next c.requires.room ((lays_as c.requires.accepted c.pattern.ensures).of c.requires.tree.1 c.requires.held.1))
+    ((lays_as c.requires.accepted c.maybe.ensures).of c.requires.tree.2 (rw c.second-p.ensures c.requires.held.2)))
 
-pub arm-expr-g-requires : goal.arm-expr-g-requires
-arm-expr-g-requires t c =
+pub arm-expr-requires : goal.arm-expr-requires
+arm-expr-requires t c =
     rw c.third-q.ensures (
       omega (arith, c.decreases, c.requires.held.4.same),
       record {
@@ -198,10 +173,10 @@ arm-expr-g-requires t c =
         held = c.requires.held.3;
         room =
             room_first _ (room_next (room_next (room_next c.requires.room
-            ((lays_as c.requires.accepted c.pattern-d.ensures).of c.requires.tree.1 c.requires.held.1))
-            ((lays_as c.requires.accepted c.maybe-e.ensures).of c.requires.tree.2
+            ((lays_as c.requires.accepted c.pattern.ensures).of c.requires.tree.1 c.requires.held.1))
+            ((lays_as c.requires.accepted c.maybe.ensures).of c.requires.tree.2
             (rw c.second-p.ensures c.requires.held.2)))
-            (lays c.word-f.ensures));
+            (lays c.word.ensures.laid));
       },
     )
 
@@ -210,24 +185,24 @@ arm-arm_comma-requires t c =
     rw c.third-q.ensures (record {
       whole = expr_whole _ _ _ c.requires.tree.3 c.requires.held.3;
       room = comma_room _ _ _ c.requires.tree.3 _ c.requires.held.3 (room_next (room_next (room_next (room_next c.requires.room
-          ((lays_as c.requires.accepted c.pattern-d.ensures).of c.requires.tree.1 c.requires.held.1))
-          ((lays_as c.requires.accepted c.maybe-e.ensures).of c.requires.tree.2
+          ((lays_as c.requires.accepted c.pattern.ensures).of c.requires.tree.1 c.requires.held.1))
+          ((lays_as c.requires.accepted c.maybe.ensures).of c.requires.tree.2
           (rw c.second-p.ensures c.requires.held.2)))
-          (lays c.word-f.ensures))
-          ((lays_as c.requires.accepted c.expr-g.ensures).of c.requires.tree.3 (rw c.third-q.ensures c.requires.held.3)));
+          (lays c.word.ensures.laid))
+          ((lays_as c.requires.accepted c.expr.ensures).of c.requires.tree.3 (rw c.third-q.ensures c.requires.held.3)));
     })
 
 pub arm-returns : goal.arm-returns
 arm-returns t c =
-    laid_as
-    (let m = rw c.third-q.ensures at (lays c.arm_comma.ensures) in
+    laid_as (cc)
+    (let m = rw c.third-q.ensures at (lays c.arm_comma.ensures.laid) in
     record {
       of =
           λ x a.
-          lays_then ((lays_as c.requires.accepted c.pattern-d.ensures).of x.1 a.1)
-          (lays_then ((lays_as c.requires.accepted c.maybe-e.ensures).of x.2 (rw c.second-p.ensures a.2))
-          (lays_then (lays c.word-f.ensures)
-          (lays_then ((lays_as c.requires.accepted c.expr-g.ensures).of x.3 (rw c.third-q.ensures a.3))
+          lays_then ((lays_as c.requires.accepted c.pattern.ensures).of x.1 a.1)
+          (lays_then ((lays_as c.requires.accepted c.maybe.ensures).of x.2 (rw c.second-p.ensures a.2))
+          (lays_then (lays c.word.ensures.laid)
+          (lays_then ((lays_as c.requires.accepted c.expr.ensures).of x.3 (rw c.third-q.ensures a.3))
           (comma_laid _ _ _ x.3 _ a.3 m))));
     })
 
@@ -239,48 +214,43 @@ pub bind-third-q-requires : goal.bind-third-q-requires
 unfolding StmtAt
 bind-third-q-requires t c = record { second_in_image = within (ident_whole c.requires.held.1.0); third_in_image = maybe_type _ _ _ c.requires.tree.2 c.requires.held.1.1 }
 
-pub bind-word-d-requires : goal.bind-word-d-requires
+pub bind-word-requires : goal.bind-word-requires
 unfolding StmtAt rules.stmt_form
-bind-word-d-requires t c = room_first _ c.requires.room
+bind-word-requires t c = room_first _ c.requires.room
 
-pub bind-overflow_add-at : goal.bind-overflow_add-at
-unfolding StmtAt
-bind-overflow_add-at t c =
-    omega (arith, c.requires.accepted.small, c.requires.held.0.long, c.requires.held.0.fits)
-
-pub bind-ident-e-requires : goal.bind-ident-e-requires
+pub bind-ident-requires : goal.bind-ident-requires
 unfolding StmtAt rules.stmt_form
-bind-ident-e-requires t c =
+bind-ident-requires t c =
     record {
       accepted = c.requires.accepted;
       tree = c.requires.tree.1;
       held = c.requires.held.1.0;
-      room = room_first _ (room_next c.requires.room (lays c.word-d.ensures));
+      room = room_first _ (room_next c.requires.room (lays c.word.ensures.laid));
     }
 
-pub bind-let_type-f-requires : goal.bind-let_type-f-requires
+pub bind-let_type-requires : goal.bind-let_type-requires
 unfolding StmtAt rules.stmt_form
-bind-let_type-f-requires t c =
+bind-let_type-requires t c =
     rw c.second-p.ensures (record {
       accepted = c.requires.accepted;
       tree = c.requires.tree.2;
       held = c.requires.held.1.1;
       room =
-          room_first _ (room_next (room_next c.requires.room (lays c.word-d.ensures))
-          ((lays_as c.requires.accepted c.ident-e.ensures).of c.requires.tree.1 c.requires.held.1.0));
+          room_first _ (room_next (room_next c.requires.room (lays c.word.ensures.laid))
+          ((lays_as c.requires.accepted c.ident.ensures).of c.requires.tree.1 c.requires.held.1.0));
     })
 
-pub bind-word-g-requires : goal.bind-word-g-requires
+pub bind-word-requires-2 : goal.bind-word-requires-2
 unfolding StmtAt rules.stmt_form
-bind-word-g-requires t c =
-    room_first _ (room_next (room_next (room_next c.requires.room (lays c.word-d.ensures))
-    ((lays_as c.requires.accepted c.ident-e.ensures).of c.requires.tree.1 c.requires.held.1.0))
-    ((lays_as c.requires.accepted c.let_type-f.ensures).of c.requires.tree.2
+bind-word-requires-2 t c =
+    room_first _ (room_next (room_next (room_next c.requires.room (lays c.word.ensures.laid))
+    ((lays_as c.requires.accepted c.ident.ensures).of c.requires.tree.1 c.requires.held.1.0))
+    ((lays_as c.requires.accepted c.let_type.ensures).of c.requires.tree.2
     (rw c.second-p.ensures c.requires.held.1.1)))
 
-pub bind-expr-h-requires : goal.bind-expr-h-requires
+pub bind-expr-requires : goal.bind-expr-requires
 unfolding StmtAt rules.stmt_form
-bind-expr-h-requires t c =
+bind-expr-requires t c =
     rw c.third-q.ensures (
       omega (arith, c.decreases, c.requires.held.1.3.same),
       record {
@@ -288,37 +258,37 @@ bind-expr-h-requires t c =
         tree = c.requires.tree.3;
         held = c.requires.held.1.2;
         room =
-            room_first _ (room_next (room_next (room_next (room_next c.requires.room (lays c.word-d.ensures))
-            ((lays_as c.requires.accepted c.ident-e.ensures).of c.requires.tree.1 c.requires.held.1.0))
-            ((lays_as c.requires.accepted c.let_type-f.ensures).of c.requires.tree.2
+            room_first _ (room_next (room_next (room_next (room_next c.requires.room (lays c.word.ensures.laid))
+            ((lays_as c.requires.accepted c.ident.ensures).of c.requires.tree.1 c.requires.held.1.0))
+            ((lays_as c.requires.accepted c.let_type.ensures).of c.requires.tree.2
             (rw c.second-p.ensures c.requires.held.1.1)))
-            (lays c.word-g.ensures));
+            (lays c.word-2.ensures.laid));
       },
     )
 
-pub bind-word-requires : goal.bind-word-requires
+pub bind-word-requires-3 : goal.bind-word-requires-3
 unfolding StmtAt rules.stmt_form
-bind-word-requires t c =
-    room_next (room_next (room_next (room_next (room_next c.requires.room (lays c.word-d.ensures))
-    ((lays_as c.requires.accepted c.ident-e.ensures).of c.requires.tree.1 c.requires.held.1.0))
-    ((lays_as c.requires.accepted c.let_type-f.ensures).of c.requires.tree.2
+bind-word-requires-3 t c =
+    room_next (room_next (room_next (room_next (room_next c.requires.room (lays c.word.ensures.laid))
+    ((lays_as c.requires.accepted c.ident.ensures).of c.requires.tree.1 c.requires.held.1.0))
+    ((lays_as c.requires.accepted c.let_type.ensures).of c.requires.tree.2
     (rw c.second-p.ensures c.requires.held.1.1)))
-    (lays c.word-g.ensures))
-    ((lays_as c.requires.accepted c.expr-h.ensures).of c.requires.tree.3 (rw c.third-q.ensures c.requires.held.1.2))
+    (lays c.word-2.ensures.laid))
+    ((lays_as c.requires.accepted c.expr.ensures).of c.requires.tree.3 (rw c.third-q.ensures c.requires.held.1.2))
 
 pub bind-returns : goal.bind-returns
 unfolding StmtAt rules.stmt_form
 bind-returns t c =
-    laid_as
+    laid_as (cc)
     (record {
       of =
           λ x a.
-          lays_then (lays c.word-d.ensures)
-          (lays_then ((lays_as c.requires.accepted c.ident-e.ensures).of x.1 a.1.0)
-          (lays_then ((lays_as c.requires.accepted c.let_type-f.ensures).of x.2 (rw c.second-p.ensures a.1.1))
-          (lays_then (lays c.word-g.ensures) (lays_then
-          ((lays_as c.requires.accepted c.expr-h.ensures).of x.3 (rw c.third-q.ensures a.1.2))
-          (lays c.word.ensures)))));
+          lays_then (lays c.word.ensures.laid)
+          (lays_then ((lays_as c.requires.accepted c.ident.ensures).of x.1 a.1.0)
+          (lays_then ((lays_as c.requires.accepted c.let_type.ensures).of x.2 (rw c.second-p.ensures a.1.1))
+          (lays_then (lays c.word-2.ensures.laid) (lays_then
+          ((lays_as c.requires.accepted c.expr.ensures).of x.3 (rw c.third-q.ensures a.1.2))
+          (lays c.word-3.ensures.laid)))));
     })
 
 pub binop-precedence-q-requires : goal.binop-precedence-q-requires
@@ -329,7 +299,7 @@ pub binop-leftmost-left-requires : goal.binop-leftmost-left-requires
 unfolding ExprAt
 binop-leftmost-left-requires t c = record {
   has_chain = record {
-    source = c.args.s.now;
+    source = c.args.parsed.now.source.now;
     tree = c.requires.tree;
     held = c.requires.held;
     same = (ap rules.binop_precedence (sym c.requires.held.1.1.which.byte) ∙ sym c.precedence-q.ensures);
@@ -337,63 +307,66 @@ binop-leftmost-left-requires t c = record {
   ops_len = refl;
 }
 
-pub binop-open_group-g-requires : goal.binop-open_group-g-requires
+pub binop-open-group-requires : goal.binop-open-group-requires
 unfolding ExprAt
-binop-open_group-g-requires t c =
+binop-open-group-requires t c =
     let same : rules.binop_precedence c.requires.tree.1.2 ≡ (rank c.precedence-q.result) =
     ap rules.binop_precedence (sym c.requires.held.1.1.which.byte) ∙ sym c.precedence-q.ensures
     in
-    let st = c.leftmost-left.ensures.of c.args.s.now c.requires.tree c.requires.held same in
+    let st = c.leftmost-left.ensures.of c.args.parsed.now.source.now c.requires.tree c.requires.held same in
     let room = chain_room st.above _ (rw (chain_form _ _ c.requires.tree _ _ _ st same) at c.requires.room) in
     opens_group _ room
 
-pub binop-expr_with_precedence-d-requires : goal.binop-expr_with_precedence-d-requires
+pub binop-expr_with_precedence-requires : goal.binop-expr_with_precedence-requires
 unfolding ExprAt
-binop-expr_with_precedence-d-requires t c =
+binop-expr_with_precedence-requires t c =
     let same : rules.binop_precedence c.requires.tree.1.2 ≡ (rank c.precedence-q.result) =
     ap rules.binop_precedence (sym c.requires.held.1.1.which.byte) ∙ sym c.precedence-q.ensures
     in
-    let st = c.leftmost-left.ensures.of c.args.s.now c.requires.tree c.requires.held same in
+    let st = c.leftmost-left.ensures.of c.args.parsed.now.source.now c.requires.tree c.requires.held same in
     let room = chain_room st.above _ (rw (chain_form _ _ c.requires.tree _ _ _ st same) at c.requires.room) in (
       omega (arith, c.decreases, above_size st.above, c.leftmost-left.ensures.further),
       record {
         accepted = c.requires.accepted;
         tree = st.tree;
         held = st.held;
-        room = room_first _ (room_group _ room c.open_group-g.ensures);
+        room = room_first _ (room_group _ room c.open-group.ensures.opened);
       },
     )
 
-pub binop-line_or_space-e-requires : goal.binop-line_or_space-e-requires
+pub binop-push-requires : goal.binop-push-requires
 unfolding ExprAt
-binop-line_or_space-e-requires t c =
-    let same : rules.binop_precedence c.requires.tree.1.2 ≡ (rank c.precedence-q.result) =
-    ap rules.binop_precedence (sym c.requires.held.1.1.which.byte) ∙ sym c.precedence-q.ensures
-    in
-    let st = c.leftmost-left.ensures.of c.args.s.now c.requires.tree c.requires.held same in
-    let room = chain_room st.above _ (rw (chain_form _ _ c.requires.tree _ _ _ st same) at c.requires.room) in
-    room_first _ (room_next (room_group _ room c.open_group-g.ensures)
-    ((lays_as c.requires.accepted c.expr_with_precedence-d.ensures).of st.tree st.held))
+binop-push-requires t c =
+    record {
+      room = let same : rules.binop_precedence c.requires.tree.1.2 ≡ (rank c.precedence-q.result) =
+          ap rules.binop_precedence (sym c.requires.held.1.1.which.byte) ∙ sym c.precedence-q.ensures
+          in
+          let st = c.leftmost-left.ensures.of c.args.parsed.now.source.now c.requires.tree c.requires.held same in
+          let room = chain_room st.above _ (rw (chain_form _ _ c.requires.tree _ _ _ st same) at c.requires.room) in
+          room_first _ (room_next (room_group _ room c.open-group.ensures.opened)
+          ((lays_as c.requires.accepted c.expr_with_precedence.ensures).of st.tree st.held));
+      small = tt;
+    }
 
-pub binop-open_indent-i-requires : goal.binop-open_indent-i-requires
+pub binop-open-indent-requires : goal.binop-open-indent-requires
 unfolding ExprAt
-binop-open_indent-i-requires t c =
+binop-open-indent-requires t c =
     let same : rules.binop_precedence c.requires.tree.1.2 ≡ (rank c.precedence-q.result) =
     ap rules.binop_precedence (sym c.requires.held.1.1.which.byte) ∙ sym c.precedence-q.ensures
     in
-    let st = c.leftmost-left.ensures.of c.args.s.now c.requires.tree c.requires.held same in
+    let st = c.leftmost-left.ensures.of c.args.parsed.now.source.now c.requires.tree c.requires.held same in
     let room = chain_room st.above _ (rw (chain_form _ _ c.requires.tree _ _ _ st same) at c.requires.room) in
-    opens_indent _ (room_next (room_next (room_group _ room c.open_group-g.ensures)
-    ((lays_as c.requires.accepted c.expr_with_precedence-d.ensures).of st.tree st.held))
-    (lays c.line_or_space-e.ensures))
+    opens_indent _ (room_next (room_next (room_group _ room c.open-group.ensures.opened)
+    ((lays_as c.requires.accepted c.expr_with_precedence.ensures).of st.tree st.held))
+    (lays c.push.ensures.laid))
 
-pub binop-tail-f-requires : goal.binop-tail-f-requires
+pub binop-tail-requires : goal.binop-tail-requires
 unfolding ExprAt
-binop-tail-f-requires t c =
+binop-tail-requires t c =
     let same : rules.binop_precedence c.requires.tree.1.2 ≡ (rank c.precedence-q.result) =
     ap rules.binop_precedence (sym c.requires.held.1.1.which.byte) ∙ sym c.precedence-q.ensures
     in
-    let st = c.leftmost-left.ensures.of c.args.s.now c.requires.tree c.requires.held same in
+    let st = c.leftmost-left.ensures.of c.args.parsed.now.source.now c.requires.tree c.requires.held same in
     let room = chain_room st.above _ (rw (chain_form _ _ c.requires.tree _ _ _ st same) at c.requires.room) in (
       omega (arith, c.decreases),
       record {
@@ -404,36 +377,30 @@ binop-tail-f-requires t c =
         low = st.tree;
         above = st.above;
         filled = c.leftmost-left.ensures.filled;
-        head = expr_with (rank c.precedence-q.result) (given c.args.s.now c.args.b.now) st.tree;
+        head = expr_with (rank c.precedence-q.result) (given c.args.parsed.now.source.now c.args.parsed.now.image.now) st.tree;
         room =
-            room_indent (room_next (room_next (room_group _ room c.open_group-g.ensures)
-            ((lays_as c.requires.accepted c.expr_with_precedence-d.ensures).of st.tree st.held))
-            (lays c.line_or_space-e.ensures))
-            c.open_indent-i.ensures;
+            room_indent (room_next (room_next (room_group _ room c.open-group.ensures.opened)
+            ((lays_as c.requires.accepted c.expr_with_precedence.ensures).of st.tree st.held))
+            (lays c.push.ensures.laid))
+            c.open-indent.ensures.opened;
       },
     )
-
-pub binop-close-requires : goal.binop-close-requires
-binop-close-requires t c = tt
-
-pub binop-close-requires-2 : goal.binop-close-requires-2
-binop-close-requires-2 t c = tt
 
 pub binop-returns : goal.binop-returns
 unfolding ExprAt
 binop-returns t c =
-    laid_as
+    laid_as (cc)
     (record {
       of =
           λ x a.
           let same : rules.binop_precedence x.1.2 ≡ (rank c.precedence-q.result) =
           ap rules.binop_precedence (sym a.1.1.which.byte) ∙ sym c.precedence-q.ensures in
-          let st = c.leftmost-left.ensures.of c.args.s.now x a same in
+          let st = c.leftmost-left.ensures.of c.args.parsed.now.source.now x a same in
           rw (chain_form _ _ x _ _ _ st same)
-          (chain_laid st.above _ c.open_group-g.ensures
-          ((lays_as c.requires.accepted c.expr_with_precedence-d.ensures).of st.tree st.held)
-          (lays c.line_or_space-e.ensures) c.open_indent-i.ensures
-          ((lays_tail c.requires.accepted c.leftmost-left.ensures.filled c.tail-f.ensures).of _
+          (chain_laid st.above _ c.open-group.ensures
+          ((lays_as c.requires.accepted c.expr_with_precedence.ensures).of st.tree st.held)
+          (lays c.push.ensures.laid) c.open-indent.ensures
+          ((lays_tail c.requires.accepted c.leftmost-left.ensures.filled c.tail.ensures).of _
           (syntax.expr x.0 (four bin_op x.1)) a st.tree st.above _)
           c.close.ensures c.close-2.ensures);
     })
@@ -452,39 +419,34 @@ pub block-is_empty-empty-requires : goal.block-is_empty-empty-requires
 block-is_empty-empty-requires t c =
     let w = block_parts _ _ _ c.requires.tree c.requires.held in record { whole = w.held.1; in_image = maybe_expr_lem _ _ _ w.tree.2 w.held.3 }
 
-pub block-open_group-g-requires : goal.block-open_group-g-requires
-block-open_group-g-requires t c =
+pub block-open-group-requires : goal.block-open-group-requires
+block-open-group-requires t c =
     let h = block_has c.is_empty-empty.ensures c.requires in
     opens_group _ h.room
 
-pub block-block_start-d-requires : goal.block-block_start-d-requires
-block-block_start-d-requires t c =
+pub block-block_start-requires : goal.block-block_start-requires
+block-block_start-requires t c =
     let h = block_has c.is_empty-empty.ensures c.requires in
-    room_first _ (room_group _ h.room c.open_group-g.ensures)
+    room_first _ (room_group _ h.room c.open-group.ensures.opened)
 
-pub block-open_indent-i-requires : goal.block-open_indent-i-requires
-block-open_indent-i-requires t c =
+pub block-open-indent-requires : goal.block-open-indent-requires
+block-open-indent-requires t c =
     let h =
     body_has refl refl refl (let hb = block_has c.is_empty-empty.ensures c.requires in
-    has_at hb (room_first _ (room_next (room_group _ hb.room c.open_group-g.ensures) (lays c.block_start-d.ensures))))
+    has_at hb (room_first _ (room_next (room_group _ hb.room c.open-group.ensures.opened) (lays c.block_start.ensures.laid))))
     in
     opens_indent _ h.room
-
-pub block-overflow_add-at : goal.block-overflow_add-at
-block-overflow_add-at t c =
-    let w = block_parts _ _ _ c.requires.tree c.requires.held in
-    omega (arith, c.requires.accepted.small, w.held.0.long, w.held.0.fits, w.held.1.long, w.held.1.fits)
 
 pub block-overflow_add-at-2 : goal.block-overflow_add-at-2
 block-overflow_add-at-2 t c =
     let w = block_parts _ _ _ c.requires.tree c.requires.held in
     omega (arith, c.requires.accepted.small, w.held.0.long, w.held.0.fits, w.held.1.long, w.held.1.fits)
 
-pub block-stmts-e-requires : goal.block-stmts-e-requires
-block-stmts-e-requires t c =
+pub block-stmts-requires : goal.block-stmts-requires
+block-stmts-requires t c =
     let h =
     body_has refl refl refl (let hb = block_has c.is_empty-empty.ensures c.requires in
-    has_at hb (room_first _ (room_next (room_group _ hb.room c.open_group-g.ensures) (lays c.block_start-d.ensures))))
+    has_at hb (room_first _ (room_next (room_group _ hb.room c.open-group.ensures.opened) (lays c.block_start.ensures.laid))))
     in
     rw c.second-p.ensures (
       omega (arith, c.decreases, h.held.4.same, h.held.1.long),
@@ -493,15 +455,15 @@ block-stmts-e-requires t c =
         tree = h.tree.1;
         held = h.held.2;
         inside = h.held.1.fits;
-        room = room_first _ (room_indent h.room c.open_indent-i.ensures);
+        room = room_first _ (room_indent h.room c.open-indent.ensures.opened);
       },
     )
 
-pub block-last-f-requires : goal.block-last-f-requires
-block-last-f-requires t c =
+pub block-last-requires : goal.block-last-requires
+block-last-requires t c =
     let h =
     body_has c.no_stmts-none.ensures refl refl (let hb = block_has c.is_empty-empty.ensures c.requires in
-    has_at hb (room_first _ (room_next (room_group _ hb.room c.open_group-g.ensures) (lays c.block_start-d.ensures))))
+    has_at hb (room_first _ (room_next (room_group _ hb.room c.open-group.ensures.opened) (lays c.block_start.ensures.laid))))
     in
     rw c.second-p.ensures (
       omega (arith, c.decreases, h.held.4.same),
@@ -510,9 +472,9 @@ block-last-f-requires t c =
         tree = h.tree.2;
         held = h.held.3;
         room =
-            room_first _ (room_next (room_indent h.room c.open_indent-i.ensures) ((rw c.second-p.ensures
+            room_first _ (room_next (room_indent h.room c.open-indent.ensures.opened) ((rw c.second-p.ensures
             at (lays_all c.requires.accepted
-            (rw c.second-p.ensures (block_parts _ _ _ c.requires.tree c.requires.held).held.1.fits) c.stmts-e.ensures)).of
+            (rw c.second-p.ensures (block_parts _ _ _ c.requires.tree c.requires.held).held.1.fits) c.stmts.ensures)).of
             h.tree.1 h.held.2));
       },
     )
@@ -522,136 +484,72 @@ block-end-requires t c =
     let w = block_parts _ _ _ c.requires.tree c.requires.held in
     w.held.0
 
-pub block-gap-h-requires : goal.block-gap-h-requires
-block-gap-h-requires t c =
+pub block-gap-requires : goal.block-gap-requires
+block-gap-requires t c =
     let h =
     body_has c.no_stmts-none.ensures c.is_empty-empty.ensures c.end.ensures (let hb =
     block_has c.is_empty-empty.ensures c.requires
     in
-    has_at hb (room_first _ (room_next (room_group _ hb.room c.open_group-g.ensures) (lays c.block_start-d.ensures))))
-    in record {
-      readable = c.requires.accepted;
-      room = room_next (room_next (room_indent h.room c.open_indent-i.ensures) ((rw c.second-p.ensures
-          at (lays_all c.requires.accepted
-          (rw c.second-p.ensures (block_parts _ _ _ c.requires.tree c.requires.held).held.1.fits) c.stmts-e.ensures)).of
-          h.tree.1 h.held.2))
-          ((rw c.second-p.ensures at (lays_as c.requires.accepted c.last-f.ensures)).of h.tree.2 h.held.3);
+    has_at hb (room_first _ (room_next (room_group _ hb.room c.open-group.ensures.opened) (lays c.block_start.ensures.laid))))
+    in (room_next (room_next (room_indent h.room c.open-indent.ensures.opened) ((rw c.second-p.ensures
+    at (lays_all c.requires.accepted
+    (rw c.second-p.ensures (block_parts _ _ _ c.requires.tree c.requires.held).held.1.fits) c.stmts.ensures)).of
+    h.tree.1 h.held.2))
+    ((rw c.second-p.ensures at (lays_as c.requires.accepted c.last.ensures)).of h.tree.2 h.held.3))
+
+pub block-push-requires : goal.block-push-requires
+block-push-requires t c =
+    record {
+      room = let h = block_has c.is_empty-empty.ensures c.requires in
+          room_first _ (room_next (room_next (room_group _ h.room c.open-group.ensures.opened) (lays c.block_start.ensures.laid))
+          ((body_laid c.no_stmts-none.ensures c.is_empty-empty.ensures c.end.ensures c.open-indent.ensures
+          (rw c.second-p.ensures at (lays_all c.requires.accepted
+          (rw c.second-p.ensures (block_parts _ _ _ c.requires.tree c.requires.held).held.1.fits) c.stmts.ensures))
+          (rw c.second-p.ensures at (lays_as c.requires.accepted c.last.ensures)) (lays c.gap.ensures.laid)
+          c.close.ensures).of
+          h.tree h.held));
+      small = tt;
     }
 
-pub block-close-requires : goal.block-close-requires
-block-close-requires t c = tt
-
-pub block-line-k-requires : goal.block-line-k-requires
-block-line-k-requires t c =
+pub block-word-requires : goal.block-word-requires
+block-word-requires t c =
     let h = block_has c.is_empty-empty.ensures c.requires in
-    room_first _ (room_next (room_next (room_group _ h.room c.open_group-g.ensures) (lays c.block_start-d.ensures))
-    ((body_laid c.no_stmts-none.ensures c.is_empty-empty.ensures c.end.ensures c.open_indent-i.ensures
+    room_next (room_next (room_next (room_group _ h.room c.open-group.ensures.opened) (lays c.block_start.ensures.laid))
+    ((body_laid c.no_stmts-none.ensures c.is_empty-empty.ensures c.end.ensures c.open-indent.ensures
     (rw c.second-p.ensures at (lays_all c.requires.accepted
-    (rw c.second-p.ensures (block_parts _ _ _ c.requires.tree c.requires.held).held.1.fits) c.stmts-e.ensures))
-    (rw c.second-p.ensures at (lays_as c.requires.accepted c.last-f.ensures)) (lays c.gap-h.ensures)
+    (rw c.second-p.ensures (block_parts _ _ _ c.requires.tree c.requires.held).held.1.fits) c.stmts.ensures))
+    (rw c.second-p.ensures at (lays_as c.requires.accepted c.last.ensures)) (lays c.gap.ensures.laid)
     c.close.ensures).of
     h.tree h.held))
-
-pub block-word-w-requires : goal.block-word-w-requires
-block-word-w-requires t c =
-    let h = block_has c.is_empty-empty.ensures c.requires in
-    room_next (room_next (room_next (room_group _ h.room c.open_group-g.ensures) (lays c.block_start-d.ensures))
-    ((body_laid c.no_stmts-none.ensures c.is_empty-empty.ensures c.end.ensures c.open_indent-i.ensures
-    (rw c.second-p.ensures at (lays_all c.requires.accepted
-    (rw c.second-p.ensures (block_parts _ _ _ c.requires.tree c.requires.held).held.1.fits) c.stmts-e.ensures))
-    (rw c.second-p.ensures at (lays_as c.requires.accepted c.last-f.ensures)) (lays c.gap-h.ensures)
-    c.close.ensures).of
-    h.tree h.held))
-    (lays c.line-k.ensures)
-
-pub block-close-requires-2 : goal.block-close-requires-2
-block-close-requires-2 t c = tt
+    (lays c.push.ensures.laid)
 
 pub block-returns : goal.block-returns
 block-returns t c =
-    laid_as (block_laid c.is_empty-empty.ensures c.open_group-g.ensures (lays c.block_start-d.ensures)
-    (body_laid c.no_stmts-none.ensures c.is_empty-empty.ensures c.end.ensures c.open_indent-i.ensures
+    laid_as (cc) (block_laid c.is_empty-empty.ensures c.open-group.ensures (lays c.block_start.ensures.laid)
+    (body_laid c.no_stmts-none.ensures c.is_empty-empty.ensures c.end.ensures c.open-indent.ensures
     (rw c.second-p.ensures at (lays_all c.requires.accepted
-    (rw c.second-p.ensures (block_parts _ _ _ c.requires.tree c.requires.held).held.1.fits) c.stmts-e.ensures))
-    (rw c.second-p.ensures at (lays_as c.requires.accepted c.last-f.ensures)) (lays c.gap-h.ensures) c.close.ensures)
-    (lays c.line-k.ensures) (lays c.word-w.ensures) c.close-2.ensures)
+    (rw c.second-p.ensures (block_parts _ _ _ c.requires.tree c.requires.held).held.1.fits) c.stmts.ensures))
+    (rw c.second-p.ensures at (lays_as c.requires.accepted c.last.ensures)) (lays c.gap.ensures.laid) c.close.ensures)
+    (lays c.push.ensures.laid) (lays c.word.ensures.laid) c.close-2.ensures)
 
 pub call-second-p-requires : goal.call-second-p-requires
 unfolding ExprAt
 call-second-p-requires t c = within (expr_whole _ _ _ c.requires.tree.1.0 c.requires.held.1.0)
 
-pub call-open_call-i-requires : goal.call-open_call-i-requires
+pub call-open-call-requires : goal.call-open-call-requires
 unfolding ExprAt rules.expr_with_precedence
-call-open_call-i-requires t c =
+call-open-call-requires t c =
     opens_called _ _ (room_if _ (sym (below_rank c.args.outer Chain) ∙ sym c.lt.ensures ∙ c.if-lt.true) c.requires.room)
 
-pub call-overflow_add-at : goal.call-overflow_add-at
-unfolding ExprAt
-call-overflow_add-at t c =
-    omega (arith, c.requires.accepted.small, c.requires.held.0.long, c.requires.held.0.fits)
-
-pub call-expr_with_precedence-d-requires : goal.call-expr_with_precedence-d-requires
+pub call-expr_with_precedence-requires : goal.call-expr_with_precedence-requires
 unfolding ExprAt rules.expr_with_precedence
-call-expr_with_precedence-d-requires t c = (
+call-expr_with_precedence-requires t c = (
   omega (arith, c.decreases, c.requires.held.1.3.same),
   record {
     accepted = c.requires.accepted;
     tree = c.requires.tree.1.0;
     held = c.requires.held.1.0;
-    room = room_called _ (room_if _ (sym (below_rank c.args.outer Chain) ∙ sym c.lt.ensures ∙ c.if-lt.true) c.requires.room) c.open_call-i.ensures;
-  },
-)
-
-pub call-function_args-e-requires : goal.call-function_args-e-requires
-unfolding ExprAt rules.expr_with_precedence
-call-function_args-e-requires t c =
-    rw c.second-p.ensures (
-      omega (arith, c.decreases, c.requires.held.1.3.same),
-      record {
-        accepted = c.requires.accepted;
-        tree = (c.requires.tree.1.1, c.requires.tree.1.2);
-        held = (c.requires.held.1.1, c.requires.held.1.2);
-        room =
-            room_called_next (room_if _ (sym (below_rank c.args.outer Chain) ∙ sym c.lt.ensures ∙ c.if-lt.true) c.requires.room)
-            c.open_call-i.ensures ((lays_as c.requires.accepted
-            c.expr_with_precedence-d.ensures).of c.requires.tree.1.0 c.requires.held.1.0);
-      },
-    )
-
-pub call-set_second-requires : goal.call-set_second-requires
-call-set_second-requires t c = tt
-
-pub call-close-requires : goal.call-close-requires
-call-close-requires t c = tt
-
-pub call-returns-then-lt : goal.call-returns-then-lt
-unfolding ExprAt rules.expr_with_precedence
-call-returns-then-lt t c =
-    laid_as
-    (let l = rw c.second-p.ensures at (lays_as c.requires.accepted c.function_args-e.ensures) in
-    record {
-      of =
-          λ x a.
-          lays_if _ (sym (below_rank c.args.outer Chain) ∙ sym c.lt.ensures ∙ c.if-lt.true)
-          (lays_called c.open_call-i.ensures
-          ((lays_as c.requires.accepted c.expr_with_precedence-d.ensures).of x.1.0 a.1.0)
-          (l.of (x.1.1, x.1.2) (a.1.1, a.1.2)) c.set_second.ensures c.close.ensures);
-    })
-
-pub call-overflow_add-at-2 : goal.call-overflow_add-at-2
-unfolding ExprAt
-call-overflow_add-at-2 t c =
-    omega (arith, c.requires.accepted.small, c.requires.held.0.long, c.requires.held.0.fits)
-
-pub call-expr_with_precedence-d-requires-2 : goal.call-expr_with_precedence-d-requires-2
-unfolding ExprAt rules.expr_with_precedence
-call-expr_with_precedence-d-requires-2 t c = (
-  omega (arith, c.decreases, c.requires.held.1.3.same),
-  record {
-    accepted = c.requires.accepted;
-    tree = c.requires.tree.1.0;
-    held = c.requires.held.1.0;
-    room = room_first _ (room_else _ (sym (below_rank c.args.outer Chain) ∙ sym c.lt.ensures ∙ c.if-lt.false) c.requires.room);
+    room = room_called _ (room_if _ (sym (below_rank c.args.outer Chain) ∙ sym c.lt.ensures ∙ c.if-lt.true) c.requires.room) c.open-call.ensures.opened;
   },
 )
 
@@ -665,63 +563,99 @@ call-function_args-requires t c =
         tree = (c.requires.tree.1.1, c.requires.tree.1.2);
         held = (c.requires.held.1.1, c.requires.held.1.2);
         room =
+            room_called_next (room_if _ (sym (below_rank c.args.outer Chain) ∙ sym c.lt.ensures ∙ c.if-lt.true) c.requires.room)
+            c.open-call.ensures.opened ((lays_as c.requires.accepted
+            c.expr_with_precedence.ensures).of c.requires.tree.1.0 c.requires.held.1.0);
+      },
+    )
+
+pub call-returns-then-lt : goal.call-returns-then-lt
+unfolding ExprAt rules.expr_with_precedence
+call-returns-then-lt t c =
+    laid_as (cc)
+    (let l = rw c.second-p.ensures at (lays_as c.requires.accepted c.function_args.ensures) in
+    record {
+      of =
+          λ x a.
+          lays_if _ (sym (below_rank c.args.outer Chain) ∙ sym c.lt.ensures ∙ c.if-lt.true)
+          (closes_call c.open-call.ensures
+          ((lays_as c.requires.accepted c.expr_with_precedence.ensures).of x.1.0 a.1.0) refl
+          (l.of (x.1.1, x.1.2) (a.1.1, a.1.2)) c.set_second.ensures c.close.ensures);
+    })
+
+pub call-expr_with_precedence-requires-2 : goal.call-expr_with_precedence-requires-2
+unfolding ExprAt rules.expr_with_precedence
+call-expr_with_precedence-requires-2 t c = (
+  omega (arith, c.decreases, c.requires.held.1.3.same),
+  record {
+    accepted = c.requires.accepted;
+    tree = c.requires.tree.1.0;
+    held = c.requires.held.1.0;
+    room = room_first _ (room_else _ (sym (below_rank c.args.outer Chain) ∙ sym c.lt.ensures ∙ c.if-lt.false) c.requires.room);
+  },
+)
+
+pub call-function_args-requires-2 : goal.call-function_args-requires-2
+unfolding ExprAt rules.expr_with_precedence
+call-function_args-requires-2 t c =
+    rw c.second-p.ensures (
+      omega (arith, c.decreases, c.requires.held.1.3.same),
+      record {
+        accepted = c.requires.accepted;
+        tree = (c.requires.tree.1.1, c.requires.tree.1.2);
+        held = (c.requires.held.1.1, c.requires.held.1.2);
+        room =
             room_next (room_else _ (sym (below_rank c.args.outer Chain) ∙ sym c.lt.ensures ∙ c.if-lt.false) c.requires.room) ((lays_as c.requires.accepted
-            c.expr_with_precedence-d-2.ensures).of c.requires.tree.1.0 c.requires.held.1.0);
+            c.expr_with_precedence-2.ensures).of c.requires.tree.1.0 c.requires.held.1.0);
       },
     )
 
 pub call-returns : goal.call-returns
 unfolding ExprAt rules.expr_with_precedence
 call-returns t c =
-    laid_as
-    (let l = rw c.second-p.ensures at (lays_as c.requires.accepted c.function_args.ensures) in
+    laid_as (cc)
+    (let l = rw c.second-p.ensures at (lays_as c.requires.accepted c.function_args-2.ensures) in
     record {
       of =
           λ x a. lays_else _ (sym (below_rank c.args.outer Chain) ∙ sym c.lt.ensures ∙ c.if-lt.false) (lays_then
-          ((lays_as c.requires.accepted c.expr_with_precedence-d-2.ensures).of x.1.0 a.1.0)
+          ((lays_as c.requires.accepted c.expr_with_precedence-2.ensures).of x.1.0 a.1.0)
           (l.of (x.1.1, x.1.2) (a.1.1, a.1.2)));
     })
 
-pub cond-word-d-requires : goal.cond-word-d-requires
+pub cond-word-requires : goal.cond-word-requires
 unfolding rules.clause
-cond-word-d-requires t c = room_first _ c.requires.room
+cond-word-requires t c = room_first _ c.requires.room
 
-pub cond-open_group-g-requires : goal.cond-open_group-g-requires
+pub cond-open-group-requires : goal.cond-open-group-requires
 unfolding rules.clause
-cond-open_group-g-requires t c =
-    opens_group _ (room_first _ (room_next c.requires.room (lays c.word-d.ensures)))
+cond-open-group-requires t c =
+    opens_group _ (room_first _ (room_next c.requires.room (lays c.word.ensures.laid)))
 
-pub cond-open_indent-i-requires : goal.cond-open_indent-i-requires
+pub cond-open-indent-requires : goal.cond-open-indent-requires
 unfolding rules.clause
-cond-open_indent-i-requires t c =
-    opens_indent _ (room_group _ (room_first _ (room_next c.requires.room (lays c.word-d.ensures))) c.open_group-g.ensures)
+cond-open-indent-requires t c =
+    opens_indent _ (room_group _ (room_first _ (room_next c.requires.room (lays c.word.ensures.laid))) c.open-group.ensures.opened)
 
-pub cond-expr-e-requires : goal.cond-expr-e-requires
+pub cond-expr-requires : goal.cond-expr-requires
 unfolding rules.clause
-cond-expr-e-requires t c = (
+cond-expr-requires t c = (
   omega (arith, c.decreases),
   record {
     accepted = c.requires.accepted;
     tree = c.requires.tree.0;
     held = c.requires.held.0;
     room =
-        room_indent (room_group _ (room_first _ (room_next c.requires.room (lays c.word-d.ensures))) c.open_group-g.ensures)
-        c.open_indent-i.ensures;
+        room_indent (room_group _ (room_first _ (room_next c.requires.room (lays c.word.ensures.laid))) c.open-group.ensures.opened)
+        c.open-indent.ensures.opened;
   },
 )
 
-pub cond-close-requires : goal.cond-close-requires
-cond-close-requires t c = tt
-
-pub cond-close-requires-2 : goal.cond-close-requires-2
-cond-close-requires-2 t c = tt
-
-pub cond-word-f-requires : goal.cond-word-f-requires
+pub cond-word-requires-2 : goal.cond-word-requires-2
 unfolding rules.clause
-cond-word-f-requires t c =
-    room_first _ (room_next (room_next c.requires.room (lays c.word-d.ensures)) (lays_group _ c.open_group-g.ensures
-    (lays_indent c.open_indent-i.ensures
-    ((lays_as c.requires.accepted c.expr-e.ensures).of c.requires.tree.0 c.requires.held.0) c.close.ensures)
+cond-word-requires-2 t c =
+    room_first _ (room_next (room_next c.requires.room (lays c.word.ensures.laid)) (closes_group _ c.open-group.ensures
+    (closes_indent c.open-indent.ensures
+    ((lays_as c.requires.accepted c.expr.ensures).of c.requires.tree.0 c.requires.held.0) c.close.ensures)
     c.close-2.ensures))
 
 pub cond-past-requires : goal.cond-past-requires
@@ -738,27 +672,27 @@ cond-block-requires t c =
         tree = c.requires.tree.1;
         held = c.requires.held.1;
         room =
-            room_next (room_next (room_next c.requires.room (lays c.word-d.ensures)) (lays_group _ c.open_group-g.ensures
-            (lays_indent c.open_indent-i.ensures
-            ((lays_as c.requires.accepted c.expr-e.ensures).of c.requires.tree.0 c.requires.held.0) c.close.ensures)
+            room_next (room_next (room_next c.requires.room (lays c.word.ensures.laid)) (closes_group _ c.open-group.ensures
+            (closes_indent c.open-indent.ensures
+            ((lays_as c.requires.accepted c.expr.ensures).of c.requires.tree.0 c.requires.held.0) c.close.ensures)
             c.close-2.ensures))
-            (lays c.word-f.ensures);
+            (lays c.word-2.ensures.laid);
       },
     )
 
 pub cond-returns : goal.cond-returns
 unfolding rules.clause
 cond-returns t c =
-    laid_as
+    laid_as (cc)
     (record {
       of =
           λ x a.
-          lays_then (lays c.word-d.ensures)
+          lays_then (lays c.word.ensures.laid)
           (lays_then
-          (lays_group _ c.open_group-g.ensures (lays_indent c.open_indent-i.ensures
-          ((lays_as c.requires.accepted c.expr-e.ensures).of x.0 a.0) c.close.ensures)
+          (closes_group _ c.open-group.ensures (closes_indent c.open-indent.ensures
+          ((lays_as c.requires.accepted c.expr.ensures).of x.0 a.0) c.close.ensures)
           c.close-2.ensures)
-          (lays_then (lays c.word-f.ensures)
+          (lays_then (lays c.word-2.ensures.laid)
           ((lays_as c.requires.accepted c.block.ensures).of x.1 (rw c.past.ensures a.1))));
     })
 
@@ -766,23 +700,18 @@ pub each-second-p-requires : goal.each-second-p-requires
 unfolding ExprAt
 each-second-p-requires t c = within (ident_whole c.requires.held.1.0)
 
-pub each-word-d-requires : goal.each-word-d-requires
+pub each-word-requires : goal.each-word-requires
 unfolding ExprAt rules.expr_with_precedence
-each-word-d-requires t c = room_first _ c.requires.room
+each-word-requires t c = room_first _ c.requires.room
 
-pub each-overflow_add-at : goal.each-overflow_add-at
-unfolding ExprAt
-each-overflow_add-at t c =
-    omega (arith, c.requires.accepted.small, c.requires.held.0.long, c.requires.held.0.fits)
-
-pub each-ident-e-requires : goal.each-ident-e-requires
+pub each-ident-requires : goal.each-ident-requires
 unfolding ExprAt rules.expr_with_precedence
-each-ident-e-requires t c =
+each-ident-requires t c =
     record {
       accepted = c.requires.accepted;
       tree = c.requires.tree.1.0;
       held = c.requires.held.1.0;
-      room = room_first _ (room_next c.requires.room (lays c.word-d.ensures));
+      room = room_first _ (room_next c.requires.room (lays c.word.ensures.laid));
     }
 
 pub each-cond-requires : goal.each-cond-requires
@@ -795,38 +724,31 @@ each-cond-requires t c =
         tree = (c.requires.tree.1.1, c.requires.tree.1.2);
         held = (c.requires.held.1.1, c.requires.held.1.2);
         room =
-            room_next (room_next c.requires.room (lays c.word-d.ensures))
-            ((lays_as c.requires.accepted c.ident-e.ensures).of c.requires.tree.1.0 c.requires.held.1.0);
+            room_next (room_next c.requires.room (lays c.word.ensures.laid))
+            ((lays_as c.requires.accepted c.ident.ensures).of c.requires.tree.1.0 c.requires.held.1.0);
       },
     )
 
 pub each-returns : goal.each-returns
 unfolding ExprAt rules.expr_with_precedence
 each-returns t c =
-    laid_as
+    laid_as (cc)
     (record {
       of =
           λ x a.
-          lays_then (lays c.word-d.ensures)
-          (lays_then ((lays_as c.requires.accepted c.ident-e.ensures).of x.1.0 a.1.0)
+          lays_then (lays c.word.ensures.laid)
+          (lays_then ((lays_as c.requires.accepted c.ident.ensures).of x.1.0 a.1.0)
           ((lays_as c.requires.accepted c.cond.ensures).of (x.1.1, x.1.2) (rw c.second-p.ensures (a.1.1, a.1.2))));
     })
 
-pub entry-second-p-requires : goal.entry-second-p-requires
-entry-second-p-requires t c = within (ident_whole c.requires.held.1)
-
-pub entry-overflow_add-at : goal.entry-overflow_add-at
-entry-overflow_add-at t c =
-    omega (arith, c.requires.accepted.small, c.requires.held.0.long, c.requires.held.0.fits)
-
-pub entry-ident-d-requires : goal.entry-ident-d-requires
-entry-ident-d-requires t c =
+pub entry-ident-requires : goal.entry-ident-requires
+entry-ident-requires t c =
     record { accepted = c.requires.accepted; tree = c.requires.tree.1; held = c.requires.held.1; room = room_first _ c.requires.room }
 
-pub entry-word-e-requires : goal.entry-word-e-requires
-entry-word-e-requires t c =
+pub entry-word-requires : goal.entry-word-requires
+entry-word-requires t c =
     room_first _
-    (room_next c.requires.room ((lays_as c.requires.accepted c.ident-d.ensures).of c.requires.tree.1 c.requires.held.1))
+    (room_next c.requires.room ((lays_as c.requires.accepted c.ident.ensures).of c.requires.tree.1 c.requires.held.1))
 
 pub entry-expr-requires : goal.entry-expr-requires
 entry-expr-requires t c =
@@ -838,17 +760,17 @@ entry-expr-requires t c =
         held = c.requires.held.2;
         room =
             room_next (room_next c.requires.room
-            ((lays_as c.requires.accepted c.ident-d.ensures).of c.requires.tree.1 c.requires.held.1))
-            (lays c.word-e.ensures);
+            ((lays_as c.requires.accepted c.ident.ensures).of c.requires.tree.1 c.requires.held.1))
+            (lays c.word.ensures.laid);
       },
     )
 
 pub entry-returns : goal.entry-returns
 entry-returns t c =
-    laid_as
+    laid_as (cc)
     (record {
       of =
-          λ x a. lays_then ((lays_as c.requires.accepted c.ident-d.ensures).of x.1 a.1) (lays_then (lays c.word-e.ensures)
+          λ x a. lays_then ((lays_as c.requires.accepted c.ident.ensures).of x.1 a.1) (lays_then (lays c.word.ensures.laid)
           ((lays_as c.requires.accepted c.expr.ensures).of x.2 (rw c.second-p.ensures a.2)));
     })
 
@@ -858,19 +780,19 @@ expr-expr_with_precedence-requires t c = (omega (arith, c.decreases), c.requires
 pub expr-returns : goal.expr-returns
 expr-returns t c = c.expr_with_precedence.ensures
 
-pub expr_with_precedence-form-d-requires : goal.expr_with_precedence-form-d-requires
-expr_with_precedence-form-d-requires t c =
+pub expr_with_precedence-form-requires : goal.expr_with_precedence-form-requires
+expr_with_precedence-form-requires t c =
     let h = whole_has (rank c.args.outer) c.requires in
     (omega (arith, c.decreases), has_at h (room_first _ h.room))
 
 pub expr_with_precedence-pop_trailing_comment-requires : goal.expr_with_precedence-pop_trailing_comment-requires
 expr_with_precedence-pop_trailing_comment-requires t c =
-    let h = whole_has (rank c.args.outer) c.requires in record { listed = c.requires.accepted.listed; room = room_next h.room ((lays_as c.requires.accepted c.form-d.ensures).of h.tree h.held) }
+    let h = whole_has (rank c.args.outer) c.requires in (room_next h.room ((lays_as c.requires.accepted c.form.ensures).of h.tree h.held))
 
 pub expr_with_precedence-returns : goal.expr_with_precedence-returns
 expr_with_precedence-returns t c =
-    laid_as
-    (whole_laid (rank c.args.outer) (lays_as c.requires.accepted c.form-d.ensures) (lays c.pop_trailing_comment.ensures))
+    laid_as (cc)
+    (whole_laid (rank c.args.outer) (lays_as c.requires.accepted c.form.ensures) (lays c.pop_trailing_comment.ensures.laid))
 
 pub form-kind-requires : goal.form-kind-requires
 form-kind-requires t c = expr_whole _ _ _ c.requires.tree c.requires.held
@@ -881,21 +803,11 @@ form-ret-requires t c =
     let h = expr_has _ (expr_is _ _ _ 50 (sym c.kind.ensures ∙ c.in-50.is)) (rank c.args.outer) c.requires in
     (omega (arith, c.decreases), has_at h h.room)
 
-pub form-overflow_add-at : goal.form-overflow_add-at
-form-overflow_add-at t c =
-    let w = expr_whole _ _ _ c.requires.tree c.requires.held in
-    omega (arith, c.requires.accepted.small, w.long, w.fits)
-
 pub form-literal-requires : goal.form-literal-requires
 unfolding ExprAt rules.expr_with_precedence
 form-literal-requires t c =
     let h = expr_has _ (expr_is _ _ _ 51 (sym c.kind.ensures ∙ c.in-51.is)) (rank c.args.outer) c.requires in
     record { accepted = c.requires.accepted; tree = h.tree.1; held = (h.held.1.0, h.held.1.1); room = h.room }
-
-pub form-overflow_add-at-in-52 : goal.form-overflow_add-at-in-52
-form-overflow_add-at-in-52 t c =
-    let w = expr_whole _ _ _ c.requires.tree c.requires.held in
-    omega (arith, c.requires.accepted.small, w.long, w.fits)
 
 pub form-block-requires : goal.form-block-requires
 unfolding ExprAt rules.expr_with_precedence
@@ -919,22 +831,12 @@ form-access-requires t c =
     let h = expr_has _ (expr_is _ _ _ 55 (sym c.kind.ensures ∙ c.in-55.is)) (rank c.args.outer) c.requires in
     (omega (arith, c.decreases), h)
 
-pub form-overflow_add-at-in-56 : goal.form-overflow_add-at-in-56
-form-overflow_add-at-in-56 t c =
-    let w = expr_whole _ _ _ c.requires.tree c.requires.held in
-    omega (arith, c.requires.accepted.small, w.long, w.fits)
-
 pub form-path-requires : goal.form-path-requires
 unfolding ExprAt rules.expr_with_precedence
 form-path-requires t c =
     let h = expr_has _ (expr_is _ _ _ 56 (sym c.kind.ensures ∙ c.in-56.is)) (rank c.args.outer) c.requires in
     let e : ltb (rank c.args.outer) 8 ≡ c.lt.result = sym (below_rank c.args.outer Chain) ∙ sym c.lt.ensures in
     record { accepted = c.requires.accepted; tree = h.tree.1; held = h.held.1.0; room = rw e at h.room }
-
-pub form-overflow_add-at-in-57 : goal.form-overflow_add-at-in-57
-form-overflow_add-at-in-57 t c =
-    let w = expr_whole _ _ _ c.requires.tree c.requires.held in
-    omega (arith, c.requires.accepted.small, w.long, w.fits)
 
 pub form-record-requires : goal.form-record-requires
 unfolding ExprAt rules.expr_with_precedence
@@ -944,22 +846,17 @@ form-record-requires t c =
       record { accepted = c.requires.accepted; tree = (h.tree.1.0, h.tree.1.1); held = (h.held.1.0, h.held.1.1); room = h.room },
     )
 
-pub form-overflow_add-at-in-58 : goal.form-overflow_add-at-in-58
-form-overflow_add-at-in-58 t c =
-    let w = expr_whole _ _ _ c.requires.tree c.requires.held in
-    omega (arith, c.requires.accepted.small, w.long, w.fits)
-
-pub form-path-d-requires : goal.form-path-d-requires
+pub form-path-requires-in-58 : goal.form-path-requires-in-58
 unfolding ExprAt rules.expr_with_precedence
-form-path-d-requires t c =
+form-path-requires-in-58 t c =
     let h = expr_has _ (expr_is _ _ _ 58 (sym c.kind.ensures ∙ c.in-58.is)) (rank c.args.outer) c.requires in
     record { accepted = c.requires.accepted; tree = h.tree.1.0; held = h.held.1.0; room = room_first _ h.room }
 
-pub form-word-e-requires : goal.form-word-e-requires
+pub form-word-requires : goal.form-word-requires
 unfolding ExprAt rules.expr_with_precedence
-form-word-e-requires t c =
+form-word-requires t c =
     let h = expr_has _ (expr_is _ _ _ 58 (sym c.kind.ensures ∙ c.in-58.is)) (rank c.args.outer) c.requires in
-    room_first _ (room_next h.room ((lays_as c.requires.accepted c.path-d.ensures).of h.tree.1.0 h.held.1.0))
+    room_first _ (room_next h.room ((lays_as c.requires.accepted c.path-in-58.ensures).of h.tree.1.0 h.held.1.0))
 
 pub form-second-requires : goal.form-second-requires
 unfolding ExprAt
@@ -978,8 +875,8 @@ form-record-requires-in-58 t c =
         tree = (h.tree.1.1, h.tree.1.2);
         held = (h.held.1.1, h.held.1.2);
         room =
-            room_next (room_next h.room ((lays_as c.requires.accepted c.path-d.ensures).of h.tree.1.0 h.held.1.0))
-            (lays c.word-e.ensures);
+            room_next (room_next h.room ((lays_as c.requires.accepted c.path-in-58.ensures).of h.tree.1.0 h.held.1.0))
+            (lays c.word.ensures.laid);
       },
     )
 
@@ -989,25 +886,15 @@ form-list-requires t c =
     let h = expr_has _ (expr_is _ _ _ 59 (sym c.kind.ensures ∙ c.in-59.is)) (rank c.args.outer) c.requires in
     (omega (arith, c.decreases), has_at h h.room)
 
-pub form-overflow_add-at-in-60 : goal.form-overflow_add-at-in-60
-form-overflow_add-at-in-60 t c =
-    let w = expr_whole _ _ _ c.requires.tree c.requires.held in
-    omega (arith, c.requires.accepted.small, w.long, w.fits)
-
 pub form-after-requires : goal.form-after-requires
 unfolding ExprAt rules.expr_with_precedence
 form-after-requires t c =
     let h = expr_has _ (expr_is _ _ _ 60 (sym c.kind.ensures ∙ c.in-60.is)) (rank c.args.outer) c.requires in
     (omega (arith, c.decreases, h.held.1.1.same), record { accepted = c.requires.accepted; tree = h.tree.1; held = h.held.1.0; room = h.room })
 
-pub form-overflow_add-at-in-61 : goal.form-overflow_add-at-in-61
-form-overflow_add-at-in-61 t c =
-    let w = expr_whole _ _ _ c.requires.tree c.requires.held in
-    omega (arith, c.requires.accepted.small, w.long, w.fits)
-
-pub form-path-d-requires-in-61 : goal.form-path-d-requires-in-61
+pub form-path-requires-in-61 : goal.form-path-requires-in-61
 unfolding ExprAt rules.expr_with_precedence
-form-path-d-requires-in-61 t c =
+form-path-requires-in-61 t c =
     let h = expr_has _ (expr_is _ _ _ 61 (sym c.kind.ensures ∙ c.in-61.is)) (rank c.args.outer) c.requires in
     record { accepted = c.requires.accepted; tree = h.tree.1.0; held = h.held.1.0; room = room_first _ h.room }
 
@@ -1027,18 +914,13 @@ form-after-requires-in-61 t c =
         accepted = c.requires.accepted;
         tree = h.tree.1.1;
         held = h.held.1.1;
-        room = room_next h.room ((lays_as c.requires.accepted c.path-d-in-61.ensures).of h.tree.1.0 h.held.1.0);
+        room = room_next h.room ((lays_as c.requires.accepted c.path-in-61.ensures).of h.tree.1.0 h.held.1.0);
       },
     )
 
-pub form-overflow_add-at-in-62 : goal.form-overflow_add-at-in-62
-form-overflow_add-at-in-62 t c =
-    let w = expr_whole _ _ _ c.requires.tree c.requires.held in
-    omega (arith, c.requires.accepted.small, w.long, w.fits)
-
-pub form-path-d-requires-in-62 : goal.form-path-d-requires-in-62
+pub form-path-requires-in-62 : goal.form-path-requires-in-62
 unfolding ExprAt rules.expr_with_precedence
-form-path-d-requires-in-62 t c =
+form-path-requires-in-62 t c =
     let h = expr_has _ (expr_is _ _ _ 62 (sym c.kind.ensures ∙ c.in-62.is)) (rank c.args.outer) c.requires in
     record { accepted = c.requires.accepted; tree = h.tree.1.0; held = h.held.1.0; room = room_first _ h.room }
 
@@ -1064,7 +946,7 @@ form-after-requires-in-62 t c =
         accepted = c.requires.accepted;
         tree = h.tree.1.2;
         held = h.held.1.3;
-        room = room_next (rw (← e) at h.room) ((lays_as c.requires.accepted c.path-d-in-62.ensures).of h.tree.1.0 h.held.1.0);
+        room = room_next (rw (← e) at h.room) ((lays_as c.requires.accepted c.path-in-62.ensures).of h.tree.1.0 h.held.1.0);
       },
     )
 
@@ -1073,11 +955,6 @@ unfolding rules.expr_with_precedence
 form-binop-requires t c =
     let h = expr_has _ (expr_is _ _ _ 63 (sym c.kind.ensures ∙ c.in-63.is)) (rank c.args.outer) c.requires in
     (omega (arith, c.decreases), has_at h h.room)
-
-pub form-overflow_add-at-in-64 : goal.form-overflow_add-at-in-64
-form-overflow_add-at-in-64 t c =
-    let w = expr_whole _ _ _ c.requires.tree c.requires.held in
-    omega (arith, c.requires.accepted.small, w.long, w.fits)
 
 pub form-after-requires-in-64 : goal.form-after-requires-in-64
 unfolding ExprAt rules.expr_with_precedence
@@ -1090,11 +967,6 @@ unfolding rules.expr_with_precedence
 form-if_else-requires t c =
     let h = expr_has _ (expr_is _ _ _ 65 (sym c.kind.ensures ∙ c.in-65.is)) (rank c.args.outer) c.requires in
     (omega (arith, c.decreases), has_at h h.room)
-
-pub form-overflow_add-at-in-66 : goal.form-overflow_add-at-in-66
-form-overflow_add-at-in-66 t c =
-    let w = expr_whole _ _ _ c.requires.tree c.requires.held in
-    omega (arith, c.requires.accepted.small, w.long, w.fits)
 
 pub form-cond-requires : goal.form-cond-requires
 unfolding ExprAt rules.expr_with_precedence
@@ -1110,24 +982,19 @@ form-each-requires t c =
     let h = expr_has _ (expr_is _ _ _ 67 (sym c.kind.ensures ∙ c.in-67.is)) (rank c.args.outer) c.requires in
     (omega (arith, c.decreases), has_at h h.room)
 
-pub form-overflow_add-at-in-68 : goal.form-overflow_add-at-in-68
-form-overflow_add-at-in-68 t c =
-    let w = expr_whole _ _ _ c.requires.tree c.requires.held in
-    omega (arith, c.requires.accepted.small, w.long, w.fits)
-
-pub form-expr_with_precedence-d-requires : goal.form-expr_with_precedence-d-requires
+pub form-expr_with_precedence-requires : goal.form-expr_with_precedence-requires
 unfolding ExprAt rules.expr_with_precedence
-form-expr_with_precedence-d-requires t c =
+form-expr_with_precedence-requires t c =
     let h = expr_has _ (expr_is _ _ _ 68 (sym c.kind.ensures ∙ c.in-68.is)) (rank c.args.outer) c.requires in (
       omega (arith, c.decreases, h.held.1.1.same),
       record { accepted = c.requires.accepted; tree = h.tree.1; held = h.held.1.0; room = room_first _ h.room },
     )
 
-pub form-word-requires : goal.form-word-requires
+pub form-word-requires-in-68 : goal.form-word-requires-in-68
 unfolding ExprAt rules.expr_with_precedence
-form-word-requires t c =
+form-word-requires-in-68 t c =
     let h = expr_has _ (expr_is _ _ _ 68 (sym c.kind.ensures ∙ c.in-68.is)) (rank c.args.outer) c.requires in
-    room_next h.room ((lays_as c.requires.accepted c.expr_with_precedence-d.ensures).of h.tree.1 h.held.1.0)
+    room_next h.room ((lays_as c.requires.accepted c.expr_with_precedence.ensures).of h.tree.1 h.held.1.0)
 
 pub form-fstr-requires : goal.form-fstr-requires
 unfolding rules.expr_with_precedence
@@ -1173,41 +1040,41 @@ form-par-requires t c =
 pub form-returns-in-50 : goal.form-returns-in-50
 unfolding ExprAt rules.expr_with_precedence
 form-returns-in-50 t c =
-    laid_as (expr_laid _ (expr_is _ _ _ 50 (sym c.kind.ensures ∙ c.in-50.is)) (rank c.args.outer)
+    laid_as (cc) (expr_laid _ (expr_is _ _ _ 50 (sym c.kind.ensures ∙ c.in-50.is)) (rank c.args.outer)
     (record { of = λ x a. (lays_as c.requires.accepted c.ret.ensures).of x a }))
 
 pub form-returns-in-51 : goal.form-returns-in-51
 unfolding ExprAt rules.expr_with_precedence
 form-returns-in-51 t c =
-    laid_as (expr_laid _ (expr_is _ _ _ 51 (sym c.kind.ensures ∙ c.in-51.is)) (rank c.args.outer)
+    laid_as (cc) (expr_laid _ (expr_is _ _ _ 51 (sym c.kind.ensures ∙ c.in-51.is)) (rank c.args.outer)
     (record { of = λ x a. (lays_as c.requires.accepted c.literal.ensures).of x.1 (a.1.0, a.1.1) }))
 
 pub form-returns-in-52 : goal.form-returns-in-52
 unfolding ExprAt rules.expr_with_precedence
 form-returns-in-52 t c =
-    laid_as (expr_laid _ (expr_is _ _ _ 52 (sym c.kind.ensures ∙ c.in-52.is)) (rank c.args.outer)
+    laid_as (cc) (expr_laid _ (expr_is _ _ _ 52 (sym c.kind.ensures ∙ c.in-52.is)) (rank c.args.outer)
     (record { of = λ x a. (lays_as c.requires.accepted c.block.ensures).of x.1 a.1.0 }))
 
 pub form-returns-in-53 : goal.form-returns-in-53
 unfolding ExprAt rules.expr_with_precedence
 form-returns-in-53 t c =
-    laid_as (expr_laid _ (expr_is _ _ _ 53 (sym c.kind.ensures ∙ c.in-53.is)) (rank c.args.outer)
+    laid_as (cc) (expr_laid _ (expr_is _ _ _ 53 (sym c.kind.ensures ∙ c.in-53.is)) (rank c.args.outer)
     (record { of = λ x a. (lays_as c.requires.accepted c.match_expr.ensures).of x a }))
 
 pub form-returns-in-54 : goal.form-returns-in-54
 form-returns-in-54 t c =
-    laid_as (expr_laid _ (expr_is _ _ _ 54 (sym c.kind.ensures ∙ c.in-54.is))
+    laid_as (cc) (expr_laid _ (expr_is _ _ _ 54 (sym c.kind.ensures ∙ c.in-54.is))
     (rank c.args.outer) (lays_as c.requires.accepted c.call.ensures))
 
 pub form-returns-in-55 : goal.form-returns-in-55
 form-returns-in-55 t c =
-    laid_as (expr_laid _ (expr_is _ _ _ 55 (sym c.kind.ensures ∙ c.in-55.is))
+    laid_as (cc) (expr_laid _ (expr_is _ _ _ 55 (sym c.kind.ensures ∙ c.in-55.is))
     (rank c.args.outer) (lays_as c.requires.accepted c.access.ensures))
 
 pub form-returns-in-56 : goal.form-returns-in-56
 unfolding ExprAt rules.expr_with_precedence
 form-returns-in-56 t c =
-    laid_as (expr_laid _ (expr_is _ _ _ 56 (sym c.kind.ensures ∙ c.in-56.is)) (rank c.args.outer)
+    laid_as (cc) (expr_laid _ (expr_is _ _ _ 56 (sym c.kind.ensures ∙ c.in-56.is)) (rank c.args.outer)
     (record {
       of =
           λ x a.
@@ -1218,15 +1085,15 @@ form-returns-in-56 t c =
 pub form-returns-in-57 : goal.form-returns-in-57
 unfolding ExprAt rules.expr_with_precedence
 form-returns-in-57 t c =
-    laid_as (expr_laid _ (expr_is _ _ _ 57 (sym c.kind.ensures ∙ c.in-57.is)) (rank c.args.outer)
+    laid_as (cc) (expr_laid _ (expr_is _ _ _ 57 (sym c.kind.ensures ∙ c.in-57.is)) (rank c.args.outer)
     (record { of = λ x a. (lays_as c.requires.accepted c.«record».ensures).of (x.1.0, x.1.1) (a.1.0, a.1.1) }))
 
 pub form-returns-in-58 : goal.form-returns-in-58
 unfolding ExprAt rules.expr_with_precedence
 form-returns-in-58 t c =
-    laid_as (expr_laid _ (expr_is _ _ _ 58 (sym c.kind.ensures ∙ c.in-58.is)) (rank c.args.outer) (record {
+    laid_as (cc) (expr_laid _ (expr_is _ _ _ 58 (sym c.kind.ensures ∙ c.in-58.is)) (rank c.args.outer) (record {
       of =
-          λ x a. lays_then ((lays_as c.requires.accepted c.path-d.ensures).of x.1.0 a.1.0) (lays_then (lays c.word-e.ensures)
+          λ x a. lays_then ((lays_as c.requires.accepted c.path-in-58.ensures).of x.1.0 a.1.0) (lays_then (lays c.word.ensures.laid)
           ((lays_as c.requires.accepted c.record-in-58.ensures).of (x.1.1, x.1.2)
           (rw c.second.ensures (a.1.1, a.1.2))));
     }))
@@ -1234,90 +1101,90 @@ form-returns-in-58 t c =
 pub form-returns-in-59 : goal.form-returns-in-59
 unfolding rules.expr_with_precedence
 form-returns-in-59 t c =
-    laid_as (expr_laid _ (expr_is _ _ _ 59 (sym c.kind.ensures ∙ c.in-59.is)) (rank c.args.outer)
+    laid_as (cc) (expr_laid _ (expr_is _ _ _ 59 (sym c.kind.ensures ∙ c.in-59.is)) (rank c.args.outer)
     (record { of = λ x a. (lays_as c.requires.accepted c.list.ensures).of x a }))
 
 pub form-returns-in-60 : goal.form-returns-in-60
 unfolding ExprAt rules.expr_with_precedence
 form-returns-in-60 t c =
-    laid_as (expr_laid _ (expr_is _ _ _ 60 (sym c.kind.ensures ∙ c.in-60.is)) (rank c.args.outer)
+    laid_as (cc) (expr_laid _ (expr_is _ _ _ 60 (sym c.kind.ensures ∙ c.in-60.is)) (rank c.args.outer)
     (record { of = λ x a. (lays_as c.requires.accepted c.after.ensures).of x.1 a.1.0 }))
 
 pub form-returns-in-61 : goal.form-returns-in-61
 unfolding ExprAt rules.expr_with_precedence
 form-returns-in-61 t c =
-    laid_as
+    laid_as (cc)
     (expr_laid _ (expr_is _ _ _ 61 (sym c.kind.ensures ∙ c.in-61.is)) (rank c.args.outer)
     (record {
       of =
-          λ x a. lays_then ((lays_as c.requires.accepted c.path-d-in-61.ensures).of x.1.0 a.1.0)
+          λ x a. lays_then ((lays_as c.requires.accepted c.path-in-61.ensures).of x.1.0 a.1.0)
           ((lays_as c.requires.accepted c.after-in-61.ensures).of x.1.1 (rw c.second-in-61.ensures a.1.1));
     }))
 
 pub form-returns-in-62 : goal.form-returns-in-62
 unfolding ExprAt rules.expr_with_precedence
 form-returns-in-62 t c =
-    laid_as
+    laid_as (cc)
     (expr_laid _ (expr_is _ _ _ 62 (sym c.kind.ensures ∙ c.in-62.is)) (rank c.args.outer)
     (record {
       of =
           λ x a.
           let e : spelling c.assign_word.result ≡ rules.assign_symbol x.1.1 =
           c.assign_word.ensures ∙ ap rules.assign_symbol a.1.1.op.which.byte in
-          rw (← e) (lays_then ((lays_as c.requires.accepted c.path-d-in-62.ensures).of x.1.0 a.1.0)
+          rw (← e) (lays_then ((lays_as c.requires.accepted c.path-in-62.ensures).of x.1.0 a.1.0)
           ((lays_as c.requires.accepted c.after-in-62.ensures).of x.1.2 (rw c.third.ensures a.1.3)));
     }))
 
 pub form-returns-in-63 : goal.form-returns-in-63
 unfolding ExprAt rules.expr_with_precedence
 form-returns-in-63 t c =
-    laid_as (expr_laid _ (expr_is _ _ _ 63 (sym c.kind.ensures ∙ c.in-63.is)) (rank c.args.outer)
+    laid_as (cc) (expr_laid _ (expr_is _ _ _ 63 (sym c.kind.ensures ∙ c.in-63.is)) (rank c.args.outer)
     (record { of = λ x a. (lays_as c.requires.accepted c.binop.ensures).of x a }))
 
 pub form-returns-in-64 : goal.form-returns-in-64
 unfolding ExprAt rules.expr_with_precedence
 form-returns-in-64 t c =
-    laid_as (expr_laid _ (expr_is _ _ _ 64 (sym c.kind.ensures ∙ c.in-64.is)) (rank c.args.outer)
+    laid_as (cc) (expr_laid _ (expr_is _ _ _ 64 (sym c.kind.ensures ∙ c.in-64.is)) (rank c.args.outer)
     (record { of = λ x a. (lays_as c.requires.accepted c.after-in-64.ensures).of x.1 a.1.0 }))
 
 pub form-returns-in-65 : goal.form-returns-in-65
 unfolding ExprAt rules.expr_with_precedence
 form-returns-in-65 t c =
-    laid_as (expr_laid _ (expr_is _ _ _ 65 (sym c.kind.ensures ∙ c.in-65.is)) (rank c.args.outer)
+    laid_as (cc) (expr_laid _ (expr_is _ _ _ 65 (sym c.kind.ensures ∙ c.in-65.is)) (rank c.args.outer)
     (record { of = λ x a. (lays_as c.requires.accepted c.if_else.ensures).of x a }))
 
 pub form-returns-in-66 : goal.form-returns-in-66
 unfolding ExprAt rules.expr_with_precedence
 form-returns-in-66 t c =
-    laid_as (expr_laid _ (expr_is _ _ _ 66 (sym c.kind.ensures ∙ c.in-66.is)) (rank c.args.outer)
+    laid_as (cc) (expr_laid _ (expr_is _ _ _ 66 (sym c.kind.ensures ∙ c.in-66.is)) (rank c.args.outer)
     (record { of = λ x a. (lays_as c.requires.accepted c.cond.ensures).of (x.1.0, x.1.1) (a.1.0, a.1.1) }))
 
 pub form-returns-in-67 : goal.form-returns-in-67
 unfolding ExprAt rules.expr_with_precedence
 form-returns-in-67 t c =
-    laid_as (expr_laid _ (expr_is _ _ _ 67 (sym c.kind.ensures ∙ c.in-67.is)) (rank c.args.outer)
+    laid_as (cc) (expr_laid _ (expr_is _ _ _ 67 (sym c.kind.ensures ∙ c.in-67.is)) (rank c.args.outer)
     (record { of = λ x a. (lays_as c.requires.accepted c.each.ensures).of x a }))
 
 pub form-returns-in-68 : goal.form-returns-in-68
 unfolding ExprAt rules.expr_with_precedence
 form-returns-in-68 t c =
-    laid_as (expr_laid _ (expr_is _ _ _ 68 (sym c.kind.ensures ∙ c.in-68.is)) (rank c.args.outer)
+    laid_as (cc) (expr_laid _ (expr_is _ _ _ 68 (sym c.kind.ensures ∙ c.in-68.is)) (rank c.args.outer)
     (record {
       of =
-          λ x a. lays_then ((lays_as c.requires.accepted c.expr_with_precedence-d.ensures).of x.1 a.1.0)
-          (lays c.word.ensures);
+          λ x a. lays_then ((lays_as c.requires.accepted c.expr_with_precedence.ensures).of x.1 a.1.0)
+          (lays c.word-in-68.ensures.laid);
     }))
 
 pub form-returns-in-69 : goal.form-returns-in-69
 unfolding ExprAt rules.expr_with_precedence
 form-returns-in-69 t c =
-    laid_as (expr_laid _ (expr_is _ _ _ 69 (sym c.kind.ensures ∙ c.in-69.is)) (rank c.args.outer)
+    laid_as (cc) (expr_laid _ (expr_is _ _ _ 69 (sym c.kind.ensures ∙ c.in-69.is)) (rank c.args.outer)
     (record { of = λ x a. (lays_as c.requires.accepted c.fstr.ensures).of x a }))
 
 pub form-returns-in_default : goal.form-returns-in_default
 unfolding ExprAt rules.expr_with_precedence
 form-returns-in_default t c =
-    laid_as (expr_laid _ (expr_is _ _ _ 70 (omega (
+    laid_as (cc) (expr_laid _ (expr_is _ _ _ 70 (omega (
       arith,
       c.kind.ensures,
       (expr_kind _ _ _ c.requires.tree c.requires.held).1,
@@ -1350,14 +1217,14 @@ pub fstr-start-requires : goal.fstr-start-requires
 unfolding ExprAt
 fstr-start-requires t c = head_whole c.requires.held.0
 
-pub fstr-gap-d-requires : goal.fstr-gap-d-requires
+pub fstr-gap-requires : goal.fstr-gap-requires
 unfolding ExprAt rules.expr_with_precedence
-fstr-gap-d-requires t c = record { readable = c.requires.accepted; room = room_first _ (rw (← c.requires.held.0.start, ← c.start.ensures) at c.requires.room) }
+fstr-gap-requires t c = (room_first _ (rw (← c.requires.held.0.start, ← c.start.ensures) at c.requires.room))
 
-pub fstr-word-e-requires : goal.fstr-word-e-requires
+pub fstr-word-requires : goal.fstr-word-requires
 unfolding ExprAt rules.expr_with_precedence
-fstr-word-e-requires t c =
-    room_first _ (room_next (rw (← c.requires.held.0.start, ← c.start.ensures) at c.requires.room) (lays c.gap-d.ensures))
+fstr-word-requires t c =
+    room_first _ (room_next (rw (← c.requires.held.0.start, ← c.start.ensures) at c.requires.room) (lays c.gap.ensures.laid))
 
 pub fstr-overflow_add-at : goal.fstr-overflow_add-at
 unfolding ExprAt
@@ -1388,9 +1255,9 @@ unfolding ExprAt
 fstr-second-requires t c =
     record { fits = c.requires.held.1.0.head.fits }
 
-pub fstr-parts-f-requires : goal.fstr-parts-f-requires
+pub fstr-parts-requires : goal.fstr-parts-requires
 unfolding ExprAt rules.expr_with_precedence
-fstr-parts-f-requires t c =
+fstr-parts-requires t c =
     rw c.second.ensures (
       omega (arith, c.decreases, c.requires.held.1.2.same),
       record {
@@ -1400,37 +1267,34 @@ fstr-parts-f-requires t c =
         inside = c.requires.held.1.0.head.fits;
         room =
             room_first _ (room_next
-            (room_next (rw (← c.requires.held.0.start, ← c.start.ensures) at c.requires.room) (lays c.gap-d.ensures))
-            (lays c.word-e.ensures));
+            (room_next (rw (← c.requires.held.0.start, ← c.start.ensures) at c.requires.room) (lays c.gap.ensures.laid))
+            (lays c.word.ensures.laid));
       },
     )
 
-pub fstr-word-requires : goal.fstr-word-requires
+pub fstr-word-requires-2 : goal.fstr-word-requires-2
 unfolding ExprAt rules.expr_with_precedence
-fstr-word-requires t c =
+fstr-word-requires-2 t c =
     room_next (room_next
-    (room_next (rw (← c.requires.held.0.start, ← c.start.ensures) at c.requires.room) (lays c.gap-d.ensures))
-    (lays c.word-e.ensures))
-    ((lays_all c.requires.accepted (rw c.second.ensures c.requires.held.1.0.head.fits) c.parts-f.ensures).of
+    (room_next (rw (← c.requires.held.0.start, ← c.start.ensures) at c.requires.room) (lays c.gap.ensures.laid))
+    (lays c.word.ensures.laid))
+    ((lays_all c.requires.accepted (rw c.second.ensures c.requires.held.1.0.head.fits) c.parts.ensures).of
     c.requires.tree.1 (rw c.second.ensures c.requires.held.1.1))
 
 pub fstr-returns : goal.fstr-returns
 unfolding ExprAt rules.expr_with_precedence
 fstr-returns t c =
-    laid_as (record {
+    laid_as (cc) (record {
       of =
-          λ x a. rw (← a.0.start, ← c.start.ensures) (lays_then (lays c.gap-d.ensures) (lays_then (lays c.word-e.ensures)
+          λ x a. rw (← a.0.start, ← c.start.ensures) (lays_then (lays c.gap.ensures.laid) (lays_then (lays c.word.ensures.laid)
           (lays_then ((lays_all c.requires.accepted (rw c.second.ensures c.requires.held.1.0.head.fits)
-          c.parts-f.ensures).of x.1 (rw c.second.ensures a.1.1))
-          (lays c.word.ensures))));
+          c.parts.ensures).of x.1 (rw c.second.ensures a.1.1))
+          (lays c.word-2.ensures.laid))));
     })
-
-pub function_args-end-requires : goal.function_args-end-requires
-function_args-end-requires t c = head_whole c.requires.held.0
 
 pub function_args-separated-requires : goal.function_args-separated-requires
 function_args-separated-requires t c =
-    has_each ExprAt rules.expr_rule _ (λ p low high x d h. (omega (arith, c.decreases, low, high), h)) (λ p x y d k r. r.1)
+    has_each ExprAt rules.expr_rule _ (λ p low high x h. (omega (arith, c.decreases, low, high), h)) (λ p x y r. r)
     ((record {
       accepted = c.requires.accepted;
       tree = rules.expr_elems _ c.requires.tree.1;
@@ -1442,9 +1306,9 @@ function_args-separated-requires t c =
 
 pub function_args-returns : goal.function_args-returns
 function_args-returns t c =
-    laid_as (record {
+    laid_as (cc) (record {
       of =
-          λ x a. (lays_each ExprAt rules.expr_rule _ (λ p low high x d h. (omega (arith, c.decreases, low, high), h)) (λ p x y d k r. r.1) c.requires.accepted c.separated.ensures).of (rules.expr_elems _ x.1)
+          λ x a. (lays_each ExprAt rules.expr_rule _ (λ p low high x h. (omega (arith, c.decreases, low, high), h)) (λ p x y r. r) c.requires.accepted c.separated.ensures).of (rules.expr_elems _ x.1)
           (list_of a.0 (expr_elems_lem _ _ _ _ x.1 a.1)) x.0 (c.end.ensures ∙ a.0.end);
     })
 
@@ -1452,14 +1316,9 @@ pub if_else-third-p-requires : goal.if_else-third-p-requires
 unfolding ExprAt
 if_else-third-p-requires t c = record { second_in_image = within (expr_whole _ _ _ c.requires.tree.1.0 c.requires.held.1.0); third_in_image = within (block_whole _ _ _ c.requires.tree.1.1 c.requires.held.1.1) }
 
-pub if_else-overflow_add-at : goal.if_else-overflow_add-at
-unfolding ExprAt
-if_else-overflow_add-at t c =
-    omega (arith, c.requires.accepted.small, c.requires.held.0.long, c.requires.held.0.fits)
-
-pub if_else-cond-d-requires : goal.if_else-cond-d-requires
+pub if_else-cond-requires : goal.if_else-cond-requires
 unfolding ExprAt rules.expr_with_precedence
-if_else-cond-d-requires t c = (
+if_else-cond-requires t c = (
   omega (arith, c.decreases, c.requires.held.1.3.same),
   record {
     accepted = c.requires.accepted;
@@ -1477,20 +1336,20 @@ if_else-is_absent-requires t c =
 pub if_else-returns-then-is_absent : goal.if_else-returns-then-is_absent
 unfolding ExprAt rules.expr_with_precedence
 if_else-returns-then-is_absent t c =
-    laid_as
-    (let e : be32 c.args.b.now (stop_at c.args.b.now (stop_at c.args.b.now (c.args.at + 13))) ≡ 0 =
+    laid_as (cc)
+    (let e : be32 c.args.parsed.now.image.now (stop_at c.args.parsed.now.image.now (stop_at c.args.parsed.now.image.now (c.args.at + 13))) ≡ 0 =
     absent (rw c.third-p.ensures at c.is_absent.ensures) c.if-is_absent.true
     in
     record {
       of =
-          λ x a. lays_then ((lays_as c.requires.accepted c.cond-d.ensures).of (x.1.0, x.1.1) (a.1.0, a.1.1))
+          λ x a. lays_then ((lays_as c.requires.accepted c.cond.ensures).of (x.1.0, x.1.1) (a.1.0, a.1.1))
           ((no_else e).of x.1.2 a.1.2);
     })
 
-pub if_else-word-e-requires : goal.if_else-word-e-requires
+pub if_else-word-requires : goal.if_else-word-requires
 unfolding ExprAt rules.expr_with_precedence
-if_else-word-e-requires t c =
-    let f : be32 c.args.b.now (stop_at c.args.b.now (stop_at c.args.b.now (c.args.at + 13))) ≡ 0
+if_else-word-requires t c =
+    let f : be32 c.args.parsed.now.image.now (stop_at c.args.parsed.now.image.now (stop_at c.args.parsed.now.image.now (c.args.at + 13))) ≡ 0
     → ⊥ = present (rw c.third-p.ensures at c.is_absent.ensures) c.if-is_absent.false
     in
     let h =
@@ -1499,7 +1358,7 @@ if_else-word-e-requires t c =
       tree = c.requires.tree.1.2;
       held = c.requires.held.1.2;
       room =
-          room_next c.requires.room ((lays_as c.requires.accepted c.cond-d.ensures).of
+          room_next c.requires.room ((lays_as c.requires.accepted c.cond.ensures).of
           (c.requires.tree.1.0, c.requires.tree.1.1) (c.requires.held.1.0, c.requires.held.1.1));
     })
     in
@@ -1508,7 +1367,7 @@ if_else-word-e-requires t c =
 pub if_else-block-requires : goal.if_else-block-requires
 unfolding ExprAt rules.expr_with_precedence
 if_else-block-requires t c =
-    let f : be32 c.args.b.now (stop_at c.args.b.now (stop_at c.args.b.now (c.args.at + 13))) ≡ 0 → ⊥ =
+    let f : be32 c.args.parsed.now.image.now (stop_at c.args.parsed.now.image.now (stop_at c.args.parsed.now.image.now (c.args.at + 13))) ≡ 0 → ⊥ =
     present (rw c.third-p.ensures at c.is_absent.ensures) c.if-is_absent.false
     in
     let h =
@@ -1517,91 +1376,83 @@ if_else-block-requires t c =
       tree = c.requires.tree.1.2;
       held = c.requires.held.1.2;
       room =
-          room_next c.requires.room ((lays_as c.requires.accepted c.cond-d.ensures).of
+          room_next c.requires.room ((lays_as c.requires.accepted c.cond.ensures).of
           (c.requires.tree.1.0, c.requires.tree.1.1) (c.requires.held.1.0, c.requires.held.1.1));
     })
     in
     rw c.third-p.ensures
-    (omega (arith, c.decreases, c.requires.held.1.3.same), has_at h (room_next h.room (lays c.word-e.ensures)))
+    (omega (arith, c.decreases, c.requires.held.1.3.same), has_at h (room_next h.room (lays c.word.ensures.laid)))
 
 pub if_else-returns : goal.if_else-returns
 unfolding ExprAt rules.expr_with_precedence
 if_else-returns t c =
-    laid_as
-    (let f : be32 c.args.b.now (stop_at c.args.b.now (stop_at c.args.b.now (c.args.at + 13))) ≡ 0
+    laid_as (cc)
+    (let f : be32 c.args.parsed.now.image.now (stop_at c.args.parsed.now.image.now (stop_at c.args.parsed.now.image.now (c.args.at + 13))) ≡ 0
     → ⊥ = present (rw c.third-p.ensures at c.is_absent.ensures) c.if-is_absent.false
     in
     let l = rw c.third-p.ensures at (lays_as c.requires.accepted c.block.ensures) in
     record {
       of =
-          λ x a. lays_then ((lays_as c.requires.accepted c.cond-d.ensures).of (x.1.0, x.1.1) (a.1.0, a.1.1))
-          ((some_else f (lays c.word-e.ensures) l).of x.1.2 a.1.2);
+          λ x a. lays_then ((lays_as c.requires.accepted c.cond.ensures).of (x.1.0, x.1.1) (a.1.0, a.1.1))
+          ((some_else f (lays c.word.ensures.laid) l).of x.1.2 a.1.2);
     })
 
 pub last-is_absent-requires : goal.last-is_absent-requires
 last-is_absent-requires t c = maybe_expr_lem _ _ _ c.requires.tree c.requires.held
 
 pub last-returns-then-is_absent : goal.last-returns-then-is_absent
-last-returns-then-is_absent t c = laid_as (no_last _ (absent c.is_absent.ensures c.if-is_absent.true))
+last-returns-then-is_absent t c = laid_as (cc) (no_last _ (absent c.is_absent.ensures c.if-is_absent.true))
 
 pub last-start-requires : goal.last-start-requires
 last-start-requires t c =
     let h = has_last c.args.first (present c.is_absent.ensures c.if-is_absent.false) refl c.requires in
     expr_whole _ _ _ h.tree h.held
 
-pub last-before_stmt-d-requires : goal.last-before_stmt-d-requires
-last-before_stmt-d-requires t c =
-    let h = has_last c.args.first (present c.is_absent.ensures c.if-is_absent.false) c.start.ensures c.requires in record { readable = c.requires.accepted; room = room_first _ h.room }
+pub last-before_stmt-requires : goal.last-before_stmt-requires
+last-before_stmt-requires t c =
+    let h = has_last c.args.first (present c.is_absent.ensures c.if-is_absent.false) c.start.ensures c.requires in (room_first _ h.room)
 
-pub last-expr-e-requires : goal.last-expr-e-requires
-last-expr-e-requires t c =
+pub last-expr-requires : goal.last-expr-requires
+last-expr-requires t c =
     let h = has_last c.args.first (present c.is_absent.ensures c.if-is_absent.false) c.start.ensures c.requires in
-    (omega (arith, c.decreases), has_at h (room_first _ (room_next h.room (lays c.before_stmt-d.ensures))))
+    (omega (arith, c.decreases), has_at h (room_first _ (room_next h.room (lays c.before_stmt.ensures.laid))))
 
 pub last-pop_trailing_comment-requires : goal.last-pop_trailing_comment-requires
 last-pop_trailing_comment-requires t c =
-    let h = has_last c.args.first (present c.is_absent.ensures c.if-is_absent.false) c.start.ensures c.requires in record {
-      listed = c.requires.accepted.listed;
-      room = room_next (room_next h.room (lays c.before_stmt-d.ensures))
-          ((lays_as c.requires.accepted c.expr-e.ensures).of h.tree h.held);
-    }
+    let h = has_last c.args.first (present c.is_absent.ensures c.if-is_absent.false) c.start.ensures c.requires in (room_next (room_next h.room (lays c.before_stmt.ensures.laid))
+    ((lays_as c.requires.accepted c.expr.ensures).of h.tree h.held))
 
 pub last-returns : goal.last-returns
 last-returns t c =
-    laid_as (some_last _ (present c.is_absent.ensures c.if-is_absent.false) c.start.ensures
-    (lays c.before_stmt-d.ensures) (lays_as c.requires.accepted c.expr-e.ensures)
-    (lays c.pop_trailing_comment.ensures))
+    laid_as (cc) (some_last _ (present c.is_absent.ensures c.if-is_absent.false) c.start.ensures
+    (lays c.before_stmt.ensures.laid) (lays_as c.requires.accepted c.expr.ensures)
+    (lays c.pop_trailing_comment.ensures.laid))
 
 pub match_expr-second-p-requires : goal.match_expr-second-p-requires
 unfolding ExprAt
 match_expr-second-p-requires t c = within (expr_whole _ _ _ c.requires.tree.1.0 c.requires.held.1.0)
 
-pub match_expr-word-d-requires : goal.match_expr-word-d-requires
+pub match_expr-word-requires : goal.match_expr-word-requires
 unfolding ExprAt rules.expr_with_precedence
-match_expr-word-d-requires t c = room_first _ c.requires.room
+match_expr-word-requires t c = room_first _ c.requires.room
 
-pub match_expr-overflow_add-at : goal.match_expr-overflow_add-at
-unfolding ExprAt
-match_expr-overflow_add-at t c =
-    omega (arith, c.requires.accepted.small, c.requires.held.0.long, c.requires.held.0.fits)
-
-pub match_expr-expr-e-requires : goal.match_expr-expr-e-requires
+pub match_expr-expr-requires : goal.match_expr-expr-requires
 unfolding ExprAt rules.expr_with_precedence
-match_expr-expr-e-requires t c = (
+match_expr-expr-requires t c = (
   omega (arith, c.decreases, c.requires.held.1.3.same),
   record {
     accepted = c.requires.accepted;
     tree = c.requires.tree.1.0;
     held = c.requires.held.1.0;
-    room = room_first _ (room_next c.requires.room (lays c.word-d.ensures));
+    room = room_first _ (room_next c.requires.room (lays c.word.ensures.laid));
   },
 )
 
-pub match_expr-word-f-requires : goal.match_expr-word-f-requires
+pub match_expr-word-requires-2 : goal.match_expr-word-requires-2
 unfolding ExprAt rules.expr_with_precedence
-match_expr-word-f-requires t c =
-    room_first _ (room_next (room_next c.requires.room (lays c.word-d.ensures))
-    ((lays_as c.requires.accepted c.expr-e.ensures).of c.requires.tree.1.0 c.requires.held.1.0))
+match_expr-word-requires-2 t c =
+    room_first _ (room_next (room_next c.requires.room (lays c.word.ensures.laid))
+    ((lays_as c.requires.accepted c.expr.ensures).of c.requires.tree.1.0 c.requires.held.1.0))
 
 pub match_expr-end-requires : goal.match_expr-end-requires
 unfolding ExprAt
@@ -1611,7 +1462,7 @@ match_expr-end-requires t c =
 pub match_expr-separated-requires : goal.match_expr-separated-requires
 unfolding ExprAt rules.expr_with_precedence
 match_expr-separated-requires t c =
-    has_each ArmAt arm_rule _ (λ p low high x d h. (omega (arith, c.decreases, low, high, c.second-p.ensures, ap (λ (n : ℕ). stop_at c.args.b.now n) c.second-p.ensures, c.requires.held.1.3.same), h)) (λ p x y d k r. r.1)
+    has_each ArmAt arm_rule _ (λ p low high x h. (omega (arith, c.decreases, low, high, c.second-p.ensures, ap (λ (n : ℕ). stop_at c.args.parsed.now.image.now n) c.second-p.ensures, c.requires.held.1.3.same), h)) (λ p x y r. r)
     (rw (c.end.ensures, c.second-p.ensures) (record {
       accepted = c.requires.accepted;
       tree = rules.arm_elems _ c.requires.tree.1.2;
@@ -1619,22 +1470,22 @@ match_expr-separated-requires t c =
       span = c.requires.tree.1.1;
       ended = c.requires.held.1.1.end;
       room =
-          room_next (room_next (room_next c.requires.room (lays c.word-d.ensures))
-          ((lays_as c.requires.accepted c.expr-e.ensures).of c.requires.tree.1.0 c.requires.held.1.0))
-          (lays c.word-f.ensures);
+          room_next (room_next (room_next c.requires.room (lays c.word.ensures.laid))
+          ((lays_as c.requires.accepted c.expr.ensures).of c.requires.tree.1.0 c.requires.held.1.0))
+          (lays c.word-2.ensures.laid);
     }))
 
 pub match_expr-returns : goal.match_expr-returns
 unfolding ExprAt rules.expr_with_precedence
 match_expr-returns t c =
-    laid_as
-    (let l = rw (c.end.ensures, c.second-p.ensures) at (lays_each ArmAt arm_rule _ (λ p low high x d h. (omega (arith, c.decreases, low, high, c.second-p.ensures, ap (λ (n : ℕ). stop_at c.args.b.now n) c.second-p.ensures, c.requires.held.1.3.same), h)) (λ p x y d k r. r.1) c.requires.accepted c.separated.ensures) in
+    laid_as (cc)
+    (let l = rw (c.end.ensures, c.second-p.ensures) at (lays_each ArmAt arm_rule _ (λ p low high x h. (omega (arith, c.decreases, low, high, c.second-p.ensures, ap (λ (n : ℕ). stop_at c.args.parsed.now.image.now n) c.second-p.ensures, c.requires.held.1.3.same), h)) (λ p x y r. r) c.requires.accepted c.separated.ensures) in
     record {
       of =
           λ x a.
-          lays_then (lays c.word-d.ensures)
-          (lays_then ((lays_as c.requires.accepted c.expr-e.ensures).of x.1.0 a.1.0)
-          (lays_then (lays c.word-f.ensures)
+          lays_then (lays c.word.ensures.laid)
+          (lays_then ((lays_as c.requires.accepted c.expr.ensures).of x.1.0 a.1.0)
+          (lays_then (lays c.word-2.ensures.laid)
           (l.of (rules.arm_elems _ x.1.2) (list_of a.1.1 (arm_elems_lem _ _ _ _ x.1.2 a.1.2)) x.1.1 a.1.1.end)));
     })
 
@@ -1642,7 +1493,7 @@ pub maybe-is_absent-requires : goal.maybe-is_absent-requires
 maybe-is_absent-requires t c = maybe_expr_lem _ _ _ c.requires.tree c.requires.held
 
 pub maybe-returns-then-is_absent : goal.maybe-returns-then-is_absent
-maybe-returns-then-is_absent t c = laid_as (no_maybe c.args.k (absent c.is_absent.ensures c.if-is_absent.true))
+maybe-returns-then-is_absent t c = laid_as (cc) (no_maybe c.args.k (absent c.is_absent.ensures c.if-is_absent.true))
 
 pub maybe-after-requires : goal.maybe-after-requires
 maybe-after-requires t c =
@@ -1650,30 +1501,30 @@ maybe-after-requires t c =
 
 pub maybe-returns : goal.maybe-returns
 maybe-returns t c =
-    laid_as (some_maybe c.args.k (present c.is_absent.ensures c.if-is_absent.false)
+    laid_as (cc) (some_maybe c.args.k (present c.is_absent.ensures c.if-is_absent.false)
     (lays_as c.requires.accepted c.after.ensures))
 
 pub par-start-requires : goal.par-start-requires
 unfolding ExprAt
 par-start-requires t c = head_whole c.requires.held.0
 
-pub par-gap-d-requires : goal.par-gap-d-requires
+pub par-gap-requires : goal.par-gap-requires
 unfolding ExprAt rules.expr_with_precedence
-par-gap-d-requires t c = record { readable = c.requires.accepted; room = room_first _ (rw (← c.requires.held.0.start, ← c.start.ensures) at c.requires.room) }
+par-gap-requires t c = (room_first _ (rw (← c.requires.held.0.start, ← c.start.ensures) at c.requires.room))
 
-pub par-word-e-requires : goal.par-word-e-requires
+pub par-word-requires : goal.par-word-requires
 unfolding ExprAt rules.expr_with_precedence
-par-word-e-requires t c =
-    room_first _ (room_next (rw (← c.requires.held.0.start, ← c.start.ensures) at c.requires.room) (lays c.gap-d.ensures))
+par-word-requires t c =
+    room_first _ (room_next (rw (← c.requires.held.0.start, ← c.start.ensures) at c.requires.room) (lays c.gap.ensures.laid))
 
 pub par-overflow_add-at : goal.par-overflow_add-at
 unfolding ExprAt
 par-overflow_add-at t c =
     omega (arith, c.requires.accepted.small, c.requires.held.0.long, c.requires.held.0.fits)
 
-pub par-expr-f-requires : goal.par-expr-f-requires
+pub par-expr-requires : goal.par-expr-requires
 unfolding ExprAt rules.expr_with_precedence
-par-expr-f-requires t c = (
+par-expr-requires t c = (
   omega (arith, c.decreases, c.requires.held.1.1.same),
   record {
     accepted = c.requires.accepted;
@@ -1681,33 +1532,30 @@ par-expr-f-requires t c = (
     held = c.requires.held.1.0;
     room =
         room_first _ (room_next
-        (room_next (rw (← c.requires.held.0.start, ← c.start.ensures) at c.requires.room) (lays c.gap-d.ensures))
-        (lays c.word-e.ensures));
+        (room_next (rw (← c.requires.held.0.start, ← c.start.ensures) at c.requires.room) (lays c.gap.ensures.laid))
+        (lays c.word.ensures.laid));
   },
 )
 
-pub par-word-requires : goal.par-word-requires
+pub par-word-requires-2 : goal.par-word-requires-2
 unfolding ExprAt rules.expr_with_precedence
-par-word-requires t c =
+par-word-requires-2 t c =
     room_next (room_next
-    (room_next (rw (← c.requires.held.0.start, ← c.start.ensures) at c.requires.room) (lays c.gap-d.ensures))
-    (lays c.word-e.ensures))
-    ((lays_as c.requires.accepted c.expr-f.ensures).of c.requires.tree.1 c.requires.held.1.0)
+    (room_next (rw (← c.requires.held.0.start, ← c.start.ensures) at c.requires.room) (lays c.gap.ensures.laid))
+    (lays c.word.ensures.laid))
+    ((lays_as c.requires.accepted c.expr.ensures).of c.requires.tree.1 c.requires.held.1.0)
 
 pub par-returns : goal.par-returns
 unfolding ExprAt rules.expr_with_precedence
 par-returns t c =
-    laid_as
+    laid_as (cc)
     (record {
       of =
           λ x a.
           rw (← a.0.start, ← c.start.ensures)
-          (lays_then (lays c.gap-d.ensures) (lays_then (lays c.word-e.ensures)
-          (lays_then ((lays_as c.requires.accepted c.expr-f.ensures).of x.1 a.1.0) (lays c.word.ensures))));
+          (lays_then (lays c.gap.ensures.laid) (lays_then (lays c.word.ensures.laid)
+          (lays_then ((lays_as c.requires.accepted c.expr.ensures).of x.1 a.1.0) (lays c.word-2.ensures.laid))));
     })
-
-pub part-kind-requires : goal.part-kind-requires
-part-kind-requires t c = part_whole _ _ _ c.requires.tree c.requires.held
 
 pub part-content-requires : goal.part-content-requires
 part-content-requires t c =
@@ -1715,45 +1563,40 @@ part-content-requires t c =
 
 pub part-returns-then-kind-eq-TEXT_PART : goal.part-returns-then-kind-eq-TEXT_PART
 part-returns-then-kind-eq-TEXT_PART t c =
-    laid_as (text_laid (sym c.kind.ensures ∙ c.if-kind-eq-TEXT_PART.true) (lays_as c.requires.accepted c.content.ensures))
+    laid_as (cc) (text_laid (sym c.kind.ensures ∙ c.if-kind-eq-TEXT_PART.true) (lays_as c.requires.accepted c.content.ensures))
 
-pub part-word-d-requires : goal.part-word-d-requires
-part-word-d-requires t c =
+pub part-word-requires : goal.part-word-requires
+part-word-requires t c =
     let h = value_has (λ e. c.if-kind-eq-TEXT_PART.false (c.kind.ensures ∙ e)) c.requires in
     room_first _ h.room
 
-pub part-overflow_add-at : goal.part-overflow_add-at
-part-overflow_add-at t c =
-    let w = part_whole _ _ _ c.requires.tree c.requires.held in
-    omega (arith, c.requires.accepted.small, w.long, w.fits)
-
-pub part-expr-e-requires : goal.part-expr-e-requires
-part-expr-e-requires t c =
+pub part-expr-requires : goal.part-expr-requires
+part-expr-requires t c =
     let h = value_has (λ e. c.if-kind-eq-TEXT_PART.false (c.kind.ensures ∙ e)) c.requires in (
       omega (arith, c.decreases, h.held.1.same),
       record {
         accepted = c.requires.accepted;
         tree = h.tree;
         held = h.held.0;
-        room = room_first _ (room_next h.room (lays c.word-d.ensures));
+        room = room_first _ (room_next h.room (lays c.word.ensures.laid));
       },
     )
 
-pub part-word-requires : goal.part-word-requires
-part-word-requires t c =
+pub part-word-requires-2 : goal.part-word-requires-2
+part-word-requires-2 t c =
     let h = value_has (λ e. c.if-kind-eq-TEXT_PART.false (c.kind.ensures ∙ e)) c.requires in
-    room_next (room_next h.room (lays c.word-d.ensures)) ((lays_as c.requires.accepted c.expr-e.ensures).of h.tree h.held.0)
+    room_next (room_next h.room (lays c.word.ensures.laid)) ((lays_as c.requires.accepted c.expr.ensures).of h.tree h.held.0)
 
 pub part-returns : goal.part-returns
 part-returns t c =
-    laid_as (value_laid (λ e. c.if-kind-eq-TEXT_PART.false (c.kind.ensures ∙ e)) (lays c.word-d.ensures)
-    (lays_as c.requires.accepted c.expr-e.ensures) (lays c.word.ensures))
+    laid_as (cc) (value_laid (λ e. c.if-kind-eq-TEXT_PART.false (c.kind.ensures ∙ e)) (lays c.word.ensures.laid)
+    (lays_as c.requires.accepted c.expr.ensures) (lays c.word-2.ensures.laid))
 
 pub parts-loop-p-init : goal.parts-loop-p-init
 parts-loop-p-init t c = (refl, omega arith, c.requires, λ x e l. l)
 
-pub parts-part-d-requires : goal.parts-part-d-requires
-parts-part-d-requires t c =
+pub parts-part-requires : goal.parts-part-requires
+parts-part-requires t c =
     let m = parts_first c.loop-p-test.true c.loop-p.invariant.2 in
     (omega (arith, c.decreases, m.least, c.loop-p.invariant.1), part_has m)
 
@@ -1770,22 +1613,19 @@ parts-loop-p-smaller t c =
 pub parts-loop-p-preserved : goal.parts-loop-p-preserved
 parts-loop-p-preserved t c =
     let m = parts_first c.loop-p-test.true c.loop-p.invariant.2 in (
-      c.part-d.auto.store ∙ c.loop-p.invariant.0,
+      c.part.ensures.same ∙ c.loop-p.invariant.0,
       omega (arith, c.past-p.ensures, c.loop-p.invariant.1),
-      rw c.past-p.ensures (parts_rest m (lays_as c.requires.accepted c.part-d.ensures)),
+      rw c.past-p.ensures (parts_rest m (lays_as c.requires.accepted c.part.ensures)),
       λ x e l. c.loop-p.invariant.3 x e
-          (parts_more c.loop-p-test.true (lays_as c.requires.accepted c.part-d.ensures) (rw c.past-p.ensures at l)),
+          (parts_more c.loop-p-test.true (lays_as c.requires.accepted c.part.ensures) (rw c.past-p.ensures at l)),
     )
 
 pub parts-returns : goal.parts-returns
-parts-returns t c = laid_all (c.loop-p.invariant.3 _ _ (parts_none c.loop-p-test.false))
-
-pub record-end-requires : goal.record-end-requires
-record-end-requires t c = head_whole c.requires.held.0
+parts-returns t c = laid_all (cc) (c.loop-p.invariant.3 _ _ (parts_none c.loop-p-test.false))
 
 pub record-separated-requires : goal.record-separated-requires
 record-separated-requires t c =
-    has_each EntryAt entry_rule _ (λ p low high x d h. (omega (arith, c.decreases, low, high), h)) (λ p x y d k r. r.1)
+    has_each EntryAt entry_rule _ (λ p low high x h. (omega (arith, c.decreases, low, high), h)) (λ p x y r. r)
     ((record {
       accepted = c.requires.accepted;
       tree = rules.entry_elems _ c.requires.tree.1;
@@ -1797,9 +1637,9 @@ record-separated-requires t c =
 
 pub record-returns : goal.record-returns
 record-returns t c =
-    laid_as (record {
+    laid_as (cc) (record {
       of =
-          λ x a. (lays_each EntryAt entry_rule _ (λ p low high x d h. (omega (arith, c.decreases, low, high), h)) (λ p x y d k r. r.1) c.requires.accepted c.separated.ensures).of (rules.entry_elems _ x.1)
+          λ x a. (lays_each EntryAt entry_rule _ (λ p low high x h. (omega (arith, c.decreases, low, high), h)) (λ p x y r. r) c.requires.accepted c.separated.ensures).of (rules.entry_elems _ x.1)
           (list_of a.0 (entry_elems_lem _ _ _ _ x.1 a.1)) x.0 (c.end.ensures ∙ a.0.end);
     })
 
@@ -1809,9 +1649,9 @@ ret-return_word-requires t c =
     let w = maybe_expr_lem _ _ _ c.requires.tree.1.1 c.requires.held.1.2 in
     record { at_in_bounds = omega (arith, w.fits); at_bound = omega (arith, c.requires.held.1.0.byte, c.requires.held.1.1) }
 
-pub ret-word-d-requires : goal.ret-word-d-requires
+pub ret-word-requires : goal.ret-word-requires
 unfolding ExprAt rules.expr_with_precedence
-ret-word-d-requires t c =
+ret-word-requires t c =
     let e : spelling c.return_word.result ≡ rules.return_word c.requires.tree.1.0 =
     c.return_word.ensures ∙ ap rules.return_word c.requires.held.1.0.byte in
     room_first _ (rw (← e) at c.requires.room)
@@ -1832,20 +1672,20 @@ ret-maybe-requires t c =
         accepted = c.requires.accepted;
         tree = c.requires.tree.1.1;
         held = c.requires.held.1.2;
-        room = room_next (rw (← e) at c.requires.room) (lays c.word-d.ensures);
+        room = room_next (rw (← e) at c.requires.room) (lays c.word.ensures.laid);
       },
     )
 
 pub ret-returns : goal.ret-returns
 unfolding ExprAt rules.expr_with_precedence
 ret-returns t c =
-    laid_as
+    laid_as (cc)
     (record {
       of =
           λ x a.
           let e : spelling c.return_word.result ≡ rules.return_word x.1.0 =
           c.return_word.ensures ∙ ap rules.return_word a.1.0.byte in
-          rw (← e) (lays_then (lays c.word-d.ensures) ((lays_as c.requires.accepted c.maybe.ensures).of x.1.1 a.1.2));
+          rw (← e) (lays_then (lays c.word.ensures.laid) ((lays_as c.requires.accepted c.maybe.ensures).of x.1.1 a.1.2));
     })
 
 pub stmt-kind-requires : goal.stmt-kind-requires
@@ -1855,36 +1695,31 @@ pub stmt-bind-requires : goal.stmt-bind-requires
 stmt-bind-requires t c =
     (omega (arith, c.decreases), let_has (sym c.kind.ensures ∙ c.in-30.is) c.requires)
 
-pub stmt-word-d-requires : goal.stmt-word-d-requires
-stmt-word-d-requires t c =
+pub stmt-word-requires : goal.stmt-word-requires
+stmt-word-requires t c =
     let h = import_has (sym c.kind.ensures ∙ c.in-31.is) c.requires in
     room_first _ h.room
 
-pub stmt-overflow_add-at : goal.stmt-overflow_add-at
-stmt-overflow_add-at t c =
-    let w = stmt_whole _ _ _ c.requires.tree c.requires.held in
-    omega (arith, c.requires.accepted.small, w.long, w.fits)
-
-pub stmt-import_path-e-requires : goal.stmt-import_path-e-requires
+pub stmt-import_path-requires : goal.stmt-import_path-requires
 unfolding StmtAt
-stmt-import_path-e-requires t c =
+stmt-import_path-requires t c =
     let h = import_has (sym c.kind.ensures ∙ c.in-31.is) c.requires in
     (record {
       accepted = c.requires.accepted;
       tree = h.tree.1;
       held = h.held.1.0;
-      room = room_first _ (room_next h.room (lays c.word-d.ensures));
+      room = room_first _ (room_next h.room (lays c.word.ensures.laid));
     })
 
-pub stmt-word-requires : goal.stmt-word-requires
+pub stmt-word-requires-in-31 : goal.stmt-word-requires-in-31
 unfolding StmtAt
-stmt-word-requires t c =
+stmt-word-requires-in-31 t c =
     let h = import_has (sym c.kind.ensures ∙ c.in-31.is) c.requires in
-    room_next (room_next h.room (lays c.word-d.ensures))
-    ((lays_as c.requires.accepted c.import_path-e.ensures).of h.tree.1 h.held.1.0)
+    room_next (room_next h.room (lays c.word.ensures.laid))
+    ((lays_as c.requires.accepted c.import_path.ensures).of h.tree.1 h.held.1.0)
 
-pub stmt-open_group-g-requires : goal.stmt-open_group-g-requires
-stmt-open_group-g-requires t c =
+pub stmt-open-group-requires : goal.stmt-open-group-requires
+stmt-open-group-requires t c =
     let h =
     does_has (λ e. c.in_default.in_default-own.rest.0.1 (c.kind.ensures ∙ e))
     (λ e. c.in_default.in_default-own.rest.1 (c.kind.ensures ∙ e)) c.requires
@@ -1896,9 +1731,9 @@ stmt-overflow_add-at-in_default t c =
     let w = stmt_whole _ _ _ c.requires.tree c.requires.held in
     omega (arith, c.requires.accepted.small, w.long, w.fits)
 
-pub stmt-expr-d-requires : goal.stmt-expr-d-requires
+pub stmt-expr-requires : goal.stmt-expr-requires
 unfolding StmtAt
-stmt-expr-d-requires t c =
+stmt-expr-requires t c =
     let h =
     does_has (λ e. c.in_default.in_default-own.rest.0.1 (c.kind.ensures ∙ e)) (λ e. c.in_default.in_default-own.rest.1 (c.kind.ensures ∙ e)) c.requires
     in (
@@ -1907,7 +1742,7 @@ stmt-expr-d-requires t c =
         accepted = c.requires.accepted;
         tree = h.tree.1;
         held = h.held.1.0;
-        room = room_first _ (room_group _ h.room c.open_group-g.ensures);
+        room = room_first _ (room_group _ h.room c.open-group.ensures.opened);
       },
     )
 
@@ -1916,34 +1751,31 @@ stmt-overflow_add-at-in_default-2 t c =
     let w = stmt_whole _ _ _ c.requires.tree c.requires.held in
     omega (arith, c.requires.accepted.small, w.long, w.fits)
 
-pub stmt-semicolon-e-requires : goal.stmt-semicolon-e-requires
+pub stmt-semicolon-requires : goal.stmt-semicolon-requires
 unfolding StmtAt
-stmt-semicolon-e-requires t c =
+stmt-semicolon-requires t c =
     let h =
     does_has (λ e. c.in_default.in_default-own.rest.0.1 (c.kind.ensures ∙ e)) (λ e. c.in_default.in_default-own.rest.1 (c.kind.ensures ∙ e)) c.requires
     in record {
       whole = expr_whole _ _ _ h.tree.1 h.held.1.0;
-      room = room_next (room_group _ h.room c.open_group-g.ensures)
-          ((lays_as c.requires.accepted c.expr-d.ensures).of h.tree.1 h.held.1.0);
+      room = room_next (room_group _ h.room c.open-group.ensures.opened)
+          ((lays_as c.requires.accepted c.expr.ensures).of h.tree.1 h.held.1.0);
     }
-
-pub stmt-close-requires : goal.stmt-close-requires
-stmt-close-requires t c = tt
 
 pub stmt-returns-in-30 : goal.stmt-returns-in-30
 stmt-returns-in-30 t c =
-    laid_as (let_laid (sym c.kind.ensures ∙ c.in-30.is) (lays_as c.requires.accepted c.bind.ensures))
+    laid_as (cc) (let_laid (sym c.kind.ensures ∙ c.in-30.is) (lays_as c.requires.accepted c.bind.ensures))
 
 pub stmt-returns-in-31 : goal.stmt-returns-in-31
 stmt-returns-in-31 t c =
-    laid_as (import_stmt_lem (sym c.kind.ensures ∙ c.in-31.is) (lays c.word-d.ensures)
-    (lays_as c.requires.accepted c.import_path-e.ensures) (lays c.word.ensures))
+    laid_as (cc) (import_stmt_lem (sym c.kind.ensures ∙ c.in-31.is) (lays c.word.ensures.laid)
+    (lays_as c.requires.accepted c.import_path.ensures) (lays c.word-in-31.ensures.laid))
 
 pub stmt-returns-in_default : goal.stmt-returns-in_default
 stmt-returns-in_default t c =
-    laid_as (does_laid (λ e. c.in_default.in_default-own.rest.0.1 (c.kind.ensures ∙ e))
-    (λ e. c.in_default.in_default-own.rest.1 (c.kind.ensures ∙ e)) c.open_group-g.ensures
-    (lays_as c.requires.accepted c.expr-d.ensures) (lays c.semicolon-e.ensures) c.close.ensures)
+    laid_as (cc) (does_laid (λ e. c.in_default.in_default-own.rest.0.1 (c.kind.ensures ∙ e))
+    (λ e. c.in_default.in_default-own.rest.1 (c.kind.ensures ∙ e)) c.open-group.ensures
+    (lays_as c.requires.accepted c.expr.ensures) (lays c.semicolon.ensures.laid) c.close.ensures)
 
 pub stmts-loop-p-init : goal.stmts-loop-p-init
 stmts-loop-p-init t c = (refl, omega arith, c.requires, λ x e l. l)
@@ -1951,26 +1783,23 @@ stmts-loop-p-init t c = (refl, omega arith, c.requires, λ x e l. l)
 pub stmts-start-requires : goal.stmts-start-requires
 stmts-start-requires t c = (stmts_first _ c.loop-p-test.true c.loop-p.invariant.2).whole
 
-pub stmts-before_stmt-d-requires : goal.stmts-before_stmt-d-requires
-stmts-before_stmt-d-requires t c =
-    let m = stmts_first c.loop-p.first c.loop-p-test.true c.loop-p.invariant.2 in record { readable = c.requires.accepted; room = before_stmt_room _ m c.start.ensures }
+pub stmts-before_stmt-requires : goal.stmts-before_stmt-requires
+stmts-before_stmt-requires t c =
+    let m = stmts_first c.loop-p.first c.loop-p-test.true c.loop-p.invariant.2 in (before_stmt_room _ m c.start.ensures)
 
-pub stmts-stmt-d-requires : goal.stmts-stmt-d-requires
-stmts-stmt-d-requires t c =
+pub stmts-stmt-requires : goal.stmts-stmt-requires
+stmts-stmt-requires t c =
     let m = stmts_first c.loop-p.first c.loop-p-test.true c.loop-p.invariant.2 in
-    (omega (arith, c.decreases, m.least, c.loop-p.invariant.1), stmt_has _ m c.start.ensures (lays c.before_stmt-d.ensures))
+    (omega (arith, c.decreases, m.least, c.loop-p.invariant.1), stmt_has _ m c.start.ensures (lays c.before_stmt.ensures.laid))
 
 pub stmts-end-requires : goal.stmts-end-requires
 stmts-end-requires t c =
     (stmts_first _ c.loop-p-test.true c.loop-p.invariant.2).whole
 
-pub stmts-after_stmt-d-requires : goal.stmts-after_stmt-d-requires
-stmts-after_stmt-d-requires t c =
-    let m = stmts_first c.loop-p.first c.loop-p-test.true c.loop-p.invariant.2 in record {
-      readable = c.requires.accepted;
-      room = after_stmt_room _ m c.start.ensures c.end.ensures (lays c.before_stmt-d.ensures)
-          (lays_as c.requires.accepted c.stmt-d.ensures);
-    }
+pub stmts-after_stmt-requires : goal.stmts-after_stmt-requires
+stmts-after_stmt-requires t c =
+    let m = stmts_first c.loop-p.first c.loop-p-test.true c.loop-p.invariant.2 in (after_stmt_room _ m c.start.ensures c.end.ensures (lays c.before_stmt.ensures.laid)
+    (lays_as c.requires.accepted c.stmt.ensures))
 
 pub stmts-past-p-requires : goal.stmts-past-p-requires
 stmts-past-p-requires t c =
@@ -1985,20 +1814,17 @@ stmts-loop-p-smaller t c =
 pub stmts-loop-p-preserved : goal.stmts-loop-p-preserved
 stmts-loop-p-preserved t c =
     let m = stmts_first c.loop-p.first c.loop-p-test.true c.loop-p.invariant.2 in (
-      c.after_stmt-d.auto.store ∙ c.stmt-d.auto.store ∙ c.before_stmt-d.auto.store ∙ c.loop-p.invariant.0,
+      c.after_stmt.ensures.same ∙ c.stmt.ensures.same ∙ c.before_stmt.ensures.same ∙ c.loop-p.invariant.0,
       omega (arith, c.past-p.ensures, c.loop-p.invariant.1),
-      rw c.past-p.ensures (stmts_rest _ m c.start.ensures c.end.ensures (lays c.before_stmt-d.ensures)
-          (lays_as c.requires.accepted c.stmt-d.ensures) (lays c.after_stmt-d.ensures)),
+      rw c.past-p.ensures (stmts_rest _ m c.start.ensures c.end.ensures (lays c.before_stmt.ensures.laid)
+          (lays_as c.requires.accepted c.stmt.ensures) (lays c.after_stmt.ensures.laid)),
       λ x e l. c.loop-p.invariant.3 x e (stmts_more c.loop-p.first c.loop-p-test.true c.start.ensures
-          c.end.ensures (lays c.before_stmt-d.ensures) (lays_as c.requires.accepted c.stmt-d.ensures)
-          (lays c.after_stmt-d.ensures) (rw c.past-p.ensures at l)),
+          c.end.ensures (lays c.before_stmt.ensures.laid) (lays_as c.requires.accepted c.stmt.ensures)
+          (lays c.after_stmt.ensures.laid) (rw c.past-p.ensures at l)),
     )
 
 pub stmts-returns : goal.stmts-returns
-stmts-returns t c = laid_all (c.loop-p.invariant.3 _ _ (stmts_none c.loop-p.first c.loop-p-test.false))
-
-pub tail-overflow_sub-n : goal.tail-overflow_sub-n
-tail-overflow_sub-n t c = omega (arith, c.requires.filled.far)
+stmts-returns t c = laid_all (cc) (c.loop-p.invariant.3 _ _ (stmts_none c.loop-p.first c.loop-p-test.false))
 
 pub tail-loop-n-init : goal.tail-loop-n-init
 tail-loop-n-init t c =
@@ -2013,13 +1839,13 @@ tail-loop-n-init t c =
         c.requires.held,
         c.requires.precedence,
         c.requires.low,
-        subst (λ (v : ℕ). Above c.requires.precedence c.args.s.now c.args.b.now c.requires.tree
+        subst (λ (v : ℕ). Above c.requires.precedence c.args.parsed.now.source.now c.args.parsed.now.image.now c.requires.tree
             c.args.at v c.requires.low)
             z c.requires.above,
       ),
       λ q e held x a h room.
-          subst (λ (v : ℕ). Going q c.args.s.now c.args.b.now e c.args.at v true
-          (grown a (rules.leftmost h)) c.args.store.now c.args.c c.args.store.now c.args.c)
+          subst (λ (v : ℕ). Going q c.args.parsed.now.source.now c.args.parsed.now.image.now e c.args.at v true
+          (grown a (rules.leftmost h)) c.args.state.now.store.now c.args.state.now.cursor c.args.state.now.store.now c.args.state.now.cursor)
           z
           (record { low = x; above = a; done = rules.leftmost h; begun = refl; laid = lays_skip; same = refl; room = room }),
     )
@@ -2042,8 +1868,8 @@ tail-second-requires t c =
     in
     within (expr_whole _ _ _ y.tree.1.0 y.held.1.0)
 
-pub tail-operator-d-requires : goal.tail-operator-d-requires
-tail-operator-d-requires t c =
+pub tail-operator-requires : goal.tail-operator-requires
+tail-operator-requires t c =
     let k : get_or c.args.ops.now (c.loop-n.n - 1) 0 ≡ c.args.at + 13 * (c.loop-n.n - 1) =
     c.loop-n.invariant.2 (c.loop-n.n - 1) (omega (arith, c.loop-n-test.true))
     in
@@ -2066,9 +1892,9 @@ tail-third-requires t c =
     in
     record { second_in_image = within (expr_whole _ _ _ y.tree.1.0 y.held.1.0); third_in_image = within (head_whole y.held.1.1.head) }
 
-pub tail-expr-d-requires : goal.tail-expr-d-requires
+pub tail-expr-requires : goal.tail-expr-requires
 unfolding ExprAt
-tail-expr-d-requires t c =
+tail-expr-requires t c =
     let k : get_or c.args.ops.now (c.loop-n.n - 1) 0 ≡ c.args.at + 13 * (c.loop-n.n - 1) =
     c.loop-n.invariant.2 (c.loop-n.n - 1) (omega (arith, c.loop-n-test.true))
     in
@@ -2083,7 +1909,7 @@ tail-expr-d-requires t c =
     in
     rw c.third.ensures (
       omega (arith, c.decreases, y.held.1.4.same, above_size y.above),
-      right_has c.requires.accepted n (rw c.second.ensures at (lays_as c.requires.accepted c.operator-d.ensures)),
+      right_has c.requires.accepted n (rw c.second.ensures at (lays_as c.requires.accepted c.operator.ensures)),
     )
 
 pub tail-loop-n-preserved : goal.tail-loop-n-preserved
@@ -2095,7 +1921,7 @@ tail-loop-n-preserved t c =
     above_at (get_or c.args.ops.now (c.loop-n.n - 1) 0) (omega (arith, c.loop-n-test.true))
     (omega (arith, k, c.loop-n-test.true)) c.loop-n.invariant.3.4
     in (
-      c.expr-d.auto.store ∙ c.operator-d.auto.store ∙ c.loop-n.invariant.0,
+      c.expr.ensures.same ∙ c.operator.ensures.same ∙ c.loop-n.invariant.0,
       omega (arith, c.loop-n.invariant.1),
       (λ i l. c.loop-n.invariant.2 i (omega (arith, l))),
       (
@@ -2103,23 +1929,23 @@ tail-loop-n-preserved t c =
         c.loop-n.invariant.3.1,
         c.loop-n.invariant.3.2,
         syntax.expr y.tree.0 (four bin_op y.tree.1),
-        subst (λ (v : ℕ). Above c.loop-n.invariant.3.2 c.args.s.now c.args.b.now c.loop-n.invariant.3.0
+        subst (λ (v : ℕ). Above c.loop-n.invariant.3.2 c.args.parsed.now.source.now c.args.parsed.now.image.now c.loop-n.invariant.3.0
             c.args.at v (syntax.expr y.tree.0 (four bin_op y.tree.1)))
             k y.above,
       ),
       λ q e held x a h room.
-          subst (λ (v : ℕ). Going q c.args.s.now c.args.b.now e c.args.at v false (grown a (rules.leftmost h))
-          c.args.store.now c.args.c c.expr-d.new.store c.expr-d.result)
+          subst (λ (v : ℕ). Going q c.args.parsed.now.source.now c.args.parsed.now.image.now e c.args.at v false (grown a (rules.leftmost h))
+          c.args.state.now.store.now c.args.state.now.cursor c.expr.new.state.store.now c.expr.new.state.cursor)
           k
           (going_step (omega (arith, c.loop-n-test.true)) (omega (arith, k, c.loop-n-test.true))
           (c.loop-n.invariant.4 q e held x a h room)
-          (rw c.second.ensures at (lays_as c.requires.accepted c.operator-d.ensures))
-          (rw c.third.ensures at (lays_as c.requires.accepted c.expr-d.ensures))),
+          (rw c.second.ensures at (lays_as c.requires.accepted c.operator.ensures))
+          (rw c.third.ensures at (lays_as c.requires.accepted c.expr.ensures))),
     )
 
 pub tail-returns : goal.tail-returns
 tail-returns t c =
-    laid_tail (record {
+    laid_tail (cc) (record {
       of = λ q e held x a h. record { does = λ room. (going_end (omega (arith, c.loop-n-test.false)) (c.loop-n.invariant.4 q e held x a h room)).does room };
     })
 
@@ -2134,7 +1960,7 @@ list-overflow_add-at t c = omega (arith, c.requires.accepted.small, c.requires.h
 pub list-separated-requires : goal.list-separated-requires
 unfolding ExprAt rules.expr_with_precedence
 list-separated-requires t c =
-    has_each ExprAt grouped_rule _ (λ p low high x d h. (omega (arith, c.decreases, low, high, c.requires.held.1.2.same), h)) (λ p x y d k r. r.1)
+    has_each ExprAt grouped_rule _ (λ p low high x h. (omega (arith, c.decreases, low, high, c.requires.held.1.2.same), h)) (λ p x y r. r)
     (record {
       accepted = c.requires.accepted;
       tree = rules.grouped_elems _ c.requires.tree.1;
@@ -2147,25 +1973,25 @@ list-separated-requires t c =
 pub list-returns : goal.list-returns
 unfolding ExprAt rules.expr_with_precedence
 list-returns t c =
-    laid_as (record {
+    laid_as (cc) (record {
       of =
           λ x a.
-          (lays_each ExprAt grouped_rule _ (λ p low high x d h. (omega (arith, c.decreases, low, high, a.1.2.same), h)) (λ p x y d k r. r.1) c.requires.accepted c.separated.ensures).of
+          (lays_each ExprAt grouped_rule _ (λ p low high x h. (omega (arith, c.decreases, low, high, a.1.2.same), h)) (λ p x y r. r) c.requires.accepted c.separated.ensures).of
           (rules.grouped_elems _ x.1) (list_of a.1.0.head (grouped_elems_lem _ _ _ _ x.1 a.1.1)) x.0
           (c.end.ensures ∙ a.0.end);
     })
 
-pub grouped-open_group-g-requires : goal.grouped-open_group-g-requires
-grouped-open_group-g-requires t c = opens_group _ c.requires.room
+pub grouped-open-group-requires : goal.grouped-open-group-requires
+grouped-open-group-requires t c = opens_group _ c.requires.room
 
-pub grouped-expr-d-requires : goal.grouped-expr-d-requires
-grouped-expr-d-requires t c =
-    (omega (arith, c.decreases), has_at c.requires (room_group _ c.requires.room c.open_group-g.ensures))
+pub grouped-expr-requires : goal.grouped-expr-requires
+grouped-expr-requires t c =
+    (omega (arith, c.decreases), has_at c.requires (room_group _ c.requires.room c.open-group.ensures.opened))
 
 pub grouped-returns : goal.grouped-returns
 grouped-returns t c =
-    laid_as (record {
+    laid_as (cc) (record {
       of =
-          λ e a. lays_group _ c.open_group-g.ensures
-          ((lays_as c.requires.accepted c.expr-d.ensures).of e a) c.close.ensures;
+          λ e a. closes_group _ c.open-group.ensures
+          ((lays_as c.requires.accepted c.expr.ensures).of e a) c.close.ensures;
     })

@@ -8,137 +8,137 @@ use Rattle.image.specs.Read.{stop_at}
 use Rattle.ast.specs.Syntax.{Expr}
 use Rattle.layout.specs.Forms.{stmts_from}
 use Rattle.layout.proofs.Operands.{Going}
-use lib.ListN.{get_or, length}
+use lib.ListN.{get_or}
 use mathlib.Core.List.{List}
 use Rattle.acts.specs.declared.Cursor.{Cursor}
-use Rattle.layout.specs.Promises.{HasAll}
+use Rattle.layout.specs.Promises.{HasAllIn}
 use Rattle.acts.specs.Act.{Act}
 use Rattle.acts.specs.Laid.{Room}
 use Rattle.layout.specs.Chains.{Above, grown}
 use Rattle.layout.proofs.+expr.Given as goal
 
 abbrev pub decreases-access : goal.decreases-access
-decreases-access l = 16 * be32 l.b.now l.at + 7
+decreases-access l = 16 * be32 l.parsed.now.image.now l.at + 7
 
 abbrev pub decreases-after : goal.decreases-after
-decreases-after l = 16 * be32 l.b.now l.at + 10
+decreases-after l = 16 * be32 l.parsed.now.image.now l.at + 10
 
 abbrev pub decreases-if_else : goal.decreases-if_else
-decreases-if_else l = 16 * be32 l.b.now l.at + 7
+decreases-if_else l = 16 * be32 l.parsed.now.image.now l.at + 7
 
 abbrev pub decreases-arm : goal.decreases-arm
-decreases-arm l = 16 * be32 l.b.now l.at + 7
+decreases-arm l = 16 * be32 l.parsed.now.image.now l.at + 7
 
 abbrev pub decreases-bind : goal.decreases-bind
-decreases-bind l = 16 * be32 l.b.now l.at + 7
+decreases-bind l = 16 * be32 l.parsed.now.image.now l.at + 7
 
 abbrev pub decreases-binop : goal.decreases-binop
-decreases-binop l = 16 * be32 l.b.now l.at + 7
+decreases-binop l = 16 * be32 l.parsed.now.image.now l.at + 7
 
 abbrev pub decreases-block : goal.decreases-block
-decreases-block l = 16 * be32 l.b.now l.at + 6
+decreases-block l = 16 * be32 l.parsed.now.image.now l.at + 6
 
 abbrev pub decreases-call : goal.decreases-call
-decreases-call l = 16 * be32 l.b.now l.at + 7
+decreases-call l = 16 * be32 l.parsed.now.image.now l.at + 7
 
 abbrev pub decreases-cond : goal.decreases-cond
-decreases-cond l = 16 * (be32 l.b.now l.at + be32 l.b.now (stop_at l.b.now l.at)) + 11
+decreases-cond l = 16 * (be32 l.parsed.now.image.now l.at + be32 l.parsed.now.image.now (stop_at l.parsed.now.image.now l.at)) + 11
 
 abbrev pub decreases-each : goal.decreases-each
-decreases-each l = 16 * be32 l.b.now l.at + 7
+decreases-each l = 16 * be32 l.parsed.now.image.now l.at + 7
 
 abbrev pub decreases-entry : goal.decreases-entry
-decreases-entry l = 16 * be32 l.b.now l.at + 7
+decreases-entry l = 16 * be32 l.parsed.now.image.now l.at + 7
 
 abbrev pub decreases-expr : goal.decreases-expr
-decreases-expr l = 16 * be32 l.b.now l.at + 10
+decreases-expr l = 16 * be32 l.parsed.now.image.now l.at + 10
 
 abbrev pub decreases-expr_with_precedence : goal.decreases-expr_with_precedence
-decreases-expr_with_precedence l = 16 * be32 l.b.now l.at + 9
+decreases-expr_with_precedence l = 16 * be32 l.parsed.now.image.now l.at + 9
 
 abbrev pub decreases-form : goal.decreases-form
-decreases-form l = 16 * be32 l.b.now l.at + 8
+decreases-form l = 16 * be32 l.parsed.now.image.now l.at + 8
 
 abbrev pub decreases-fstr : goal.decreases-fstr
-decreases-fstr l = 16 * be32 l.b.now l.at + 7
+decreases-fstr l = 16 * be32 l.parsed.now.image.now l.at + 7
 
 abbrev pub decreases-function_args : goal.decreases-function_args
-decreases-function_args l = 16 * be32 l.b.now l.at + 5
+decreases-function_args l = 16 * be32 l.parsed.now.image.now l.at + 5
 
 abbrev pub decreases-last : goal.decreases-last
-decreases-last l = 16 * be32 l.b.now l.at + 11
+decreases-last l = 16 * be32 l.parsed.now.image.now l.at + 11
 
 abbrev pub decreases-match_expr : goal.decreases-match_expr
-decreases-match_expr l = 16 * be32 l.b.now l.at + 7
+decreases-match_expr l = 16 * be32 l.parsed.now.image.now l.at + 7
 
 abbrev pub decreases-maybe : goal.decreases-maybe
-decreases-maybe l = 16 * be32 l.b.now l.at + 11
+decreases-maybe l = 16 * be32 l.parsed.now.image.now l.at + 11
 
 abbrev pub decreases-par : goal.decreases-par
-decreases-par l = 16 * be32 l.b.now l.at + 7
+decreases-par l = 16 * be32 l.parsed.now.image.now l.at + 7
 
 abbrev pub decreases-part : goal.decreases-part
-decreases-part l = 16 * be32 l.b.now l.at + 7
+decreases-part l = 16 * be32 l.parsed.now.image.now l.at + 7
 
 abbrev pub decreases-parts : goal.decreases-parts
 decreases-parts l = 16 * (l.to - l.from) + 2
 
 abbrev pub decreases-record : goal.decreases-record
-decreases-record l = 16 * be32 l.b.now l.at + 5
+decreases-record l = 16 * be32 l.parsed.now.image.now l.at + 5
 
 abbrev pub decreases-ret : goal.decreases-ret
-decreases-ret l = 16 * be32 l.b.now l.at + 7
+decreases-ret l = 16 * be32 l.parsed.now.image.now l.at + 7
 
 abbrev pub decreases-stmt : goal.decreases-stmt
-decreases-stmt l = 16 * be32 l.b.now l.at + 8
+decreases-stmt l = 16 * be32 l.parsed.now.image.now l.at + 8
 
 abbrev pub decreases-stmts : goal.decreases-stmts
 decreases-stmts l = 16 * (l.to - l.from) + 2
 
 abbrev pub decreases-tail : goal.decreases-tail
-decreases-tail l = 16 * be32 l.b.now l.at + 6
+decreases-tail l = 16 * be32 l.parsed.now.image.now l.at + 6
 
 abbrev pub invariant-parts-loop-p : goal.invariant-parts-loop-p
-invariant-parts-loop-p l = (length l.store ≡ length l.initial.store)
+invariant-parts-loop-p l = (l.state.store.ghost_name ≡ l.initial.state.store.ghost_name)
     × (l.from ≤ l.p)
-    × HasAll PartsAt rules.parts_rule l.s l.b l.p l.to l.d
-    × ((x : List ℕ) (e : Cursor) → LaysAll PartsAt rules.parts_rule l.s l.b l.p l.to l.store l.d x e → LaysAll PartsAt rules.parts_rule l.s l.b l.from l.to l.initial.store l.initial.d x e)
+    × HasAllIn PartsAt rules.parts_rule l.parsed.source.now l.parsed.image.now l.p l.to l.state.cursor
+    × ((x : List ℕ) (e : Cursor) → LaysAll PartsAt rules.parts_rule l.parsed.source.now l.parsed.image.now l.p l.to l.state.store.now l.state.cursor x e → LaysAll PartsAt rules.parts_rule l.parsed.source.now l.parsed.image.now l.from l.to l.initial.state.store.now l.initial.state.cursor x e)
 
 abbrev pub decreases-parts-loop-p : goal.decreases-parts-loop-p
 decreases-parts-loop-p l = l.to - l.p
 
 abbrev pub invariant-stmts-loop-p : goal.invariant-stmts-loop-p
-invariant-stmts-loop-p l = (length l.store ≡ length l.initial.store)
+invariant-stmts-loop-p l = (l.state.store.ghost_name ≡ l.initial.state.store.ghost_name)
     × (l.from ≤ l.p)
-    × HasAll StmtsAt (stmts_from l.first) l.s l.b l.p l.to l.d
-    × ((x : List ℕ) (e : Cursor) → LaysAll StmtsAt (stmts_from l.first) l.s l.b l.p l.to l.store l.d x e
-    → LaysAll StmtsAt (stmts_from l.initial.first) l.s l.b l.from l.to l.initial.store l.initial.d x e)
+    × HasAllIn StmtsAt (stmts_from l.first) l.parsed.source.now l.parsed.image.now l.p l.to l.state.cursor
+    × ((x : List ℕ) (e : Cursor) → LaysAll StmtsAt (stmts_from l.first) l.parsed.source.now l.parsed.image.now l.p l.to l.state.store.now l.state.cursor x e
+    → LaysAll StmtsAt (stmts_from l.initial.first) l.parsed.source.now l.parsed.image.now l.from l.to l.initial.state.store.now l.initial.state.cursor x e)
 
 abbrev pub decreases-stmts-loop-p : goal.decreases-stmts-loop-p
 decreases-stmts-loop-p l = l.to - l.p
 
 abbrev pub invariant-tail-loop-n : goal.invariant-tail-loop-n
-invariant-tail-loop-n l = (length l.store ≡ length l.initial.store)
+invariant-tail-loop-n l = (l.state.store.ghost_name ≡ l.initial.state.store.ghost_name)
     × (l.n ≤ 64)
     × ((i : ℕ) → i < l.n → get_or l.ops i 0 ≡ l.at + 13 * i)
-    × ((e : Expr) × ExprAt l.s l.b e l.at × (q : ℕ) × (x : Expr) × Above q l.s l.b e l.at (l.at + 13 * l.n) x)
-    × ((q : ℕ) (e : Expr) → ExprAt l.s l.b e l.at → (x : Expr) (a : Above q l.s l.b e l.at l.left x) (h : Act)
-    → Room (grown a (rules.leftmost h)).ops l.initial.d → Going q l.s l.b e l.at (l.at + 13 * l.n) l.first (grown a (rules.leftmost h)) l.initial.store l.initial.d l.store l.d)
+    × ((e : Expr) × ExprAt l.parsed.source.now l.parsed.image.now e l.at × (q : ℕ) × (x : Expr) × Above q l.parsed.source.now l.parsed.image.now e l.at (l.at + 13 * l.n) x)
+    × ((q : ℕ) (e : Expr) → ExprAt l.parsed.source.now l.parsed.image.now e l.at → (x : Expr) (a : Above q l.parsed.source.now l.parsed.image.now e l.at l.left x) (h : Act)
+    → Room (grown a (rules.leftmost h)).ops l.initial.state.cursor → Going q l.parsed.source.now l.parsed.image.now e l.at (l.at + 13 * l.n) l.first (grown a (rules.leftmost h)) l.initial.state.store.now l.initial.state.cursor l.state.store.now l.state.cursor)
 
 abbrev pub decreases-list : goal.decreases-list
-decreases-list l = 16 * be32 l.b.now l.at + 7
+decreases-list l = 16 * be32 l.parsed.now.image.now l.at + 7
 
 abbrev pub decreases-grouped : goal.decreases-grouped
-decreases-grouped l = 16 * be32 l.b.now l.at + 12
+decreases-grouped l = 16 * be32 l.parsed.now.image.now l.at + 12
 
 abbrev pub decreases-list-element : goal.decreases-list-element
-decreases-list-element l = 16 * be32 l.b.now l.p + 13
+decreases-list-element l = 16 * be32 l.parsed.now.image.now l.p + 13
 
 abbrev pub decreases-match_expr-one_arm : goal.decreases-match_expr-one_arm
-decreases-match_expr-one_arm l = 16 * be32 l.b.now l.q + 12
+decreases-match_expr-one_arm l = 16 * be32 l.parsed.now.image.now l.q + 12
 
 abbrev pub decreases-function_args-argument : goal.decreases-function_args-argument
-decreases-function_args-argument l = 16 * be32 l.b.now l.p + 12
+decreases-function_args-argument l = 16 * be32 l.parsed.now.image.now l.p + 12
 
 abbrev pub decreases-record-named : goal.decreases-record-named
-decreases-record-named l = 16 * be32 l.b.now l.p + 12
+decreases-record-named l = 16 * be32 l.parsed.now.image.now l.p + 12

@@ -1,5 +1,5 @@
 use Rattle.std.proofs.Common.{sym, ap, ◌∙◌, not, arith}
-use Rattle.layout_call.proofs.Ends.{fits_told, fits_unless, fit_cells, ahead, within, small, needed_is, ends_unfit, ends_short}
+use Rattle.layout_call.proofs.Ends.{fits_told, fits_unless, fit_cells, needed_is, ends_unfit, ends_short}
 use Rattle.layout_call.proofs.layout_accepted.Goals as goal
 
 pub returns-then-not-state_fits : goal.returns-then-not-state_fits
@@ -18,20 +18,6 @@ cursor_of-requires c =
     fit_cells file.source.now file.image.now c.args.state c.args.args c.args.store.now file.accepts
     (fits_unless file.source.now file.image.now c.args.state c.args.args c.args.store.now file.accepts _ _
     c.count_declarations-declarations.ensures c.state_fits.ensures c.if-not-state_fits.false)
-
-pub rows_wanted-needed-requires : goal.rows_wanted-needed-requires
-rows_wanted-needed-requires c =
-    let file = c.args.file in
-    let fits =
-    fits_unless file.source.now file.image.now c.args.state c.args.args c.args.store.now file.accepts _ _
-    c.count_declarations-declarations.ensures c.state_fits.ensures c.if-not-state_fits.false
-    in (
-      ahead file.source.now file.image.now c.args.state c.args.args c.args.store.now file.accepts fits,
-      (
-        within file.source.now file.image.now c.args.state c.args.args c.args.store.now file.accepts fits,
-        rw c.cursor_of.ensures (small file.source.now file.image.now c.args.state c.args.args c.args.store.now file.accepts fits),
-      ),
-    )
 
 pub returns-then-rows-needed : goal.returns-then-rows-needed
 returns-then-rows-needed c =

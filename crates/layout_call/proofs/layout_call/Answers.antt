@@ -1,14 +1,7 @@
-use Rattle.std.proofs.Common.{◌≡◌, sym, ap, ◌∙◌}
-use Rattle.std.proofs.lemmas.Result.{err_from_is_err_and, IfOk-at_ok}
-use Rattle.refusals.specs.Reasons.{answer_of}
+use Rattle.std.proofs.Common.{◌≡◌}
+use Rattle.std.proofs.lemmas.Result.{IfOk-at_ok}
 use Rattle.layout_call.specs.declared.accepted.Accepted.{Accepted}
-use Rattle.layout_call.proofs.Ends.{ends_unread}
 use Rattle.layout_call.proofs.layout_call.Goals as goal
-
-pub returns-in_err-file : goal.returns-in_err-file
-returns-in_err-file c =
-    let p = err_from_is_err_and c.from_residual.result c.from_residual.ensures.1 in
-    rw (p.1, p.2) (ends_unread _ _ _ _ _ _ (sym c.check.ensures.answer ∙ ap (answer_of (λ (a : Accepted). a.doc)) c.in_err-file.was))
 
 pub returns : goal.returns
 returns c =

@@ -1,7 +1,6 @@
-use Rattle.std.proofs.Common.{rules, arith}
+use Rattle.std.proofs.Common.{rules}
 use Rattle.whole_run.specs.FileLimits.{AreBytes}
-use Rattle.report.specs.Report.{most_files, input_ended}
-use Rattle.report.proofs.Turns.{taken_none, taken_turn, goes_more}
+use Rattle.report.proofs.Turns.{taken_none, taken_turn}
 use Rattle.report.proofs.take_files.Goals as goal
 
 pub loop-progress-init : goal.loop-progress-init

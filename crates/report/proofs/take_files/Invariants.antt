@@ -1,6 +1,6 @@
 -- Each turn takes a file more; what is held is what the files so far give.
 -- Assumes nothing.
-use Rattle.std.proofs.Common.{◌≡◌, ◌-◌, length}
+use Rattle.std.proofs.Common.{◌-◌}
 use Rattle.report.proofs.Turns.{Taken}
 use Rattle.report.proofs.take_files.Given as goal
 

@@ -5,8 +5,8 @@ use Rattle.file.specs.Whole.{to_choice}
 use Rattle.batch.proofs.Texts.{Adding}
 use Rattle.batch.proofs.counting.count_texts.Given as goal
 
-abbrev pub invariant-loop-at : goal.invariant-loop-at
-invariant-loop-at l = Adding (to_choice l.choice) l.frames l.at l.bytes
+abbrev pub invariant-loop-frame : goal.invariant-loop-frame
+invariant-loop-frame l = Adding (to_choice l.choice) l.frames l.at l.bytes
 
-abbrev pub decreases-loop-at : goal.decreases-loop-at
-decreases-loop-at l = length l.frames - l.at
+abbrev pub decreases-loop-frame : goal.decreases-loop-frame
+decreases-loop-frame l = length l.frames - l.at

@@ -1,5 +1,5 @@
 -- The 0 first, and the numbers behind it.
-use Rattle.std.proofs.Common.{◌≡◌, sym, ap, ◌∙◌, List, ℕ, Result, length, length-take, length-drop, length-set, arith}
+use Rattle.std.proofs.Common.{sym, ap, ◌∙◌, List, ℕ, Result, length, length-take, length-drop, length-set, arith}
 use Rattle.refusals.specs.Answers.{numbers_of}
 use Rattle.refusals.specs.Reasons.{answer_of}
 use Rattle.refusals.specs.declared.Refused.{Refused}

@@ -9,4 +9,5 @@ returns-in-Ok c = replied_text _ _ (omega arith) _ _ _ c.format_frame.ensures c.
 pub returns-in-Err : goal.returns-in-Err
 returns-in-Err c =
     let line = c.copy_from_slice.ensures.after ∙ c.as_bytes.ensures.value ∙ c.as_str.ensures.value in
-    replied_line _ _ (omega arith) _ _ _ c.format_frame.ensures c.in-Err.is _ _ (line ∙ c.refused_line-line.ensures) (c.len-end.ensures.value ∙ sym (ap length line))
+    replied_line _ _ (omega arith) _ _ _ c.format_frame.ensures c.in-Err.is _ _ (line ∙ c.refused_line-line.ensures)
+    (c.len-end.ensures.value ∙ sym (ap length line))

@@ -2,30 +2,30 @@ use Rattle.acts.proofs.Laws.{room_first, room_past, laid_then}
 use Rattle.layout.specs.Layout.{before_stmt}
 use Rattle.layout.proofs.blocks.before_stmt.Goals as goal
 
-pub gap-d-requires : goal.gap-d-requires
+pub gap-requires : goal.gap-requires
 unfolding before_stmt
-gap-d-requires c = record { readable = c.requires.readable; room = room_first _ (rw c.if-first.true at c.requires.room) }
+gap-requires c = (room_first _ (rw c.if-first.true at c.requires))
 
-pub line-requires : goal.line-requires
+pub push-requires : goal.push-requires
 unfolding before_stmt
-line-requires c =
-    room_past (rw c.if-first.true at c.requires.room) c.gap-d.ensures
+push-requires c =
+    record { room = room_past (rw c.if-first.true at c.requires) c.gap.ensures.laid; small = tt }
 
 pub returns-then-first : goal.returns-then-first
 unfolding before_stmt
 returns-then-first c =
-    rw c.if-first.true (laid_then c.gap-d.ensures c.line.ensures)
+    record { laid = rw c.if-first.true (laid_then c.gap.ensures.laid c.push.ensures.laid); same = cc }
 
-pub gap-d-requires-2 : goal.gap-d-requires-2
+pub gap-requires-2 : goal.gap-requires-2
 unfolding before_stmt
-gap-d-requires-2 c = record { readable = c.requires.readable; room = room_first _ (rw c.if-first.false at c.requires.room) }
+gap-requires-2 c = (room_first _ (rw c.if-first.false at c.requires))
 
-pub line-requires-2 : goal.line-requires-2
+pub push-requires-2 : goal.push-requires-2
 unfolding before_stmt
-line-requires-2 c =
-    room_past (rw c.if-first.false at c.requires.room) c.gap-d-2.ensures
+push-requires-2 c =
+    record { room = room_past (rw c.if-first.false at c.requires) c.gap-2.ensures.laid; small = tt }
 
 pub returns : goal.returns
 unfolding before_stmt
 returns c =
-    rw c.if-first.false (laid_then c.gap-d-2.ensures c.line-2.ensures)
+    record { laid = rw c.if-first.false (laid_then c.gap-2.ensures.laid c.push-2.ensures.laid); same = cc }

@@ -2,25 +2,25 @@ use Rattle.acts.proofs.Laws.{room_first, room_past, laid_then, laid_skip}
 use Rattle.layout.specs.Layout.{block_start}
 use Rattle.layout.proofs.blocks.block_start.Goals as goal
 
-pub word-d-requires : goal.word-d-requires
+pub word-requires : goal.word-requires
 unfolding block_start
-word-d-requires c = room_first _ c.requires
+word-requires c = room_first _ c.requires
 
-pub line-e-requires : goal.line-e-requires
+pub push-requires : goal.push-requires
 unfolding block_start
-line-e-requires c = room_first _ (room_past c.requires c.word-d.ensures)
+push-requires c = record { room = room_first _ (room_past c.requires c.word.ensures.laid); small = tt }
 
 pub returns-then-empty : goal.returns-then-empty
 unfolding block_start
 returns-then-empty c =
-    rw c.if-empty.true (laid_then c.word-d.ensures (laid_then c.line-e.ensures laid_skip))
+    record { laid = rw c.if-empty.true (laid_then c.word.ensures.laid (laid_then c.push.ensures.laid laid_skip)); same = cc }
 
-pub wrap_parent-requires : goal.wrap_parent-requires
+pub push-requires-2 : goal.push-requires-2
 unfolding block_start
-wrap_parent-requires c =
-    rw c.if-empty.false at (room_past (room_past c.requires c.word-d.ensures) c.line-e.ensures)
+push-requires-2 c =
+    record { room = rw c.if-empty.false at (room_past (room_past c.requires c.word.ensures.laid) c.push.ensures.laid); small = tt }
 
 pub returns : goal.returns
 unfolding block_start
 returns c =
-    rw c.if-empty.false (laid_then c.word-d.ensures (laid_then c.line-e.ensures c.wrap_parent.ensures))
+    record { laid = rw c.if-empty.false (laid_then c.word.ensures.laid (laid_then c.push.ensures.laid c.push-2.ensures.laid)); same = cc }

@@ -48,15 +48,6 @@ bounds-ops-n c =
     in
     omega (arith, f, c.loop-q.invariant.0)
 
-pub overflow_add-n : goal.overflow_add-n
-overflow_add-n c = omega (arith, c.loop-q.invariant.3)
-
-pub overflow_add-p-in-loop-q : goal.overflow_add-p-in-loop-q
-overflow_add-p-in-loop-q c =
-    let z = c.loop-q.invariant.5 c.requires.has_chain.source c.requires.has_chain.tree c.requires.has_chain.held c.requires.has_chain.same in
-    let w = expr_whole _ _ _ z.0 z.2 in
-    omega (arith, w.long, w.fits)
-
 pub loop-q-smaller : goal.loop-q-smaller
 loop-q-smaller c =
     let z = c.loop-q.invariant.5 c.requires.has_chain.source c.requires.has_chain.tree c.requires.has_chain.held c.requires.has_chain.same in

@@ -3,60 +3,61 @@ use Rattle.acts.proofs.Laws.{lays, lays_asking, room_first, room_next, room_aske
 use Rattle.layout.proofs.Lays.{laid_as}
 use Rattle.layout.proofs.chains.operator.Goals as goal
 
-pub pop_whitespace-a-requires : goal.pop_whitespace-a-requires
+pub pop_whitespace-gap-requires : goal.pop_whitespace-gap-requires
 unfolding rules.operator
-pop_whitespace-a-requires c = record {
-  listed = c.requires.accepted.listed;
-  room = room_asked _ _ (room_first _ (rw (
-    ← c.requires.held.0.head.start,
-    ← c.start.ensures,
-    ← c.requires.held.0.which.byte,
-    ← c.payload.ensures,
-    ← c.symbol-k.ensures,
-  ) at c.requires.room));
-}
+pop_whitespace-gap-requires c = (room_asked _ _ (room_first _ (rw (
+  ← c.requires.held.0.head.start,
+  ← c.start.ensures,
+  ← c.requires.held.0.which.byte,
+  ← c.payload.ensures,
+  ← c.symbol-k.ensures,
+) at c.requires.room)))
 
-pub between-d-requires : goal.between-d-requires
+pub between-requires : goal.between-requires
 unfolding rules.operator
-between-d-requires c =
-    room_asks _ (room_first _ (rw (
-      ← c.requires.held.0.head.start,
-      ← c.start.ensures,
-      ← c.requires.held.0.which.byte,
-      ← c.payload.ensures,
-      ← c.symbol-k.ensures,
-    ) at c.requires.room)) (lays_asking c.pop_whitespace-a.ensures)
+between-requires c =
+    record {
+      room =
+          room_asks _ (room_first _ (rw (
+            ← c.requires.held.0.head.start,
+            ← c.start.ensures,
+            ← c.requires.held.0.which.byte,
+            ← c.payload.ensures,
+            ← c.symbol-k.ensures,
+          ) at c.requires.room)) (lays_asking c.pop_whitespace-gap.ensures.laid);
+      small = tt;
+    }
 
-pub word-e-requires : goal.word-e-requires
+pub word-requires : goal.word-requires
 unfolding rules.operator
-word-e-requires c =
+word-requires c =
     room_first _ (room_next (rw (
       ← c.requires.held.0.head.start,
       ← c.start.ensures,
       ← c.requires.held.0.which.byte,
       ← c.payload.ensures,
       ← c.symbol-k.ensures,
-    ) at c.requires.room) (lays_asks _ (lays_asking c.pop_whitespace-a.ensures) (lays c.between-d.ensures)))
+    ) at c.requires.room) (lays_asks _ (lays_asking c.pop_whitespace-gap.ensures.laid) (lays c.between.ensures.laid)))
 
-pub word-requires : goal.word-requires
+pub word-requires-2 : goal.word-requires-2
 unfolding rules.operator
-word-requires c =
+word-requires-2 c =
     room_next (room_next (rw (
       ← c.requires.held.0.head.start,
       ← c.start.ensures,
       ← c.requires.held.0.which.byte,
       ← c.payload.ensures,
       ← c.symbol-k.ensures,
-    ) at c.requires.room) (lays_asks _ (lays_asking c.pop_whitespace-a.ensures) (lays c.between-d.ensures)))
-    (lays c.word-e.ensures)
+    ) at c.requires.room) (lays_asks _ (lays_asking c.pop_whitespace-gap.ensures.laid) (lays c.between.ensures.laid)))
+    (lays c.word.ensures.laid)
 
 pub returns : goal.returns
 unfolding rules.operator
 returns c =
-    laid_as (record {
+    laid_as (cc) (record {
       of =
           λ x a. rw
           (← a.0.head.start, ← c.start.ensures, ← a.0.which.byte, ← c.payload.ensures, ← c.symbol-k.ensures)
-          (lays_then (lays_asks _ (lays_asking c.pop_whitespace-a.ensures) (lays c.between-d.ensures))
-          (lays_then (lays c.word-e.ensures) (lays c.word.ensures)));
+          (lays_then (lays_asks _ (lays_asking c.pop_whitespace-gap.ensures.laid) (lays c.between.ensures.laid))
+          (lays_then (lays c.word.ensures.laid) (lays c.word-2.ensures.laid)));
     })

@@ -13,71 +13,71 @@ pub third-q-requires : goal.third-q-requires
 unfolding DeclarationAt
 third-q-requires c = record { second_in_image = within (ident_whole c.requires.held.1); third_in_image = within (type_whole _ _ _ c.requires.tree.1 c.requires.held.2) }
 
-pub declares-d-requires : goal.declares-d-requires
+pub declares-requires : goal.declares-requires
 unfolding DeclarationAt rules.declaration
-declares-d-requires c =
+declares-requires c =
     record { accepted = c.requires.accepted; tree = c.requires.tree.0; held = c.requires.held.1; room = room_first _ c.requires.room }
 
-pub word-e-requires : goal.word-e-requires
+pub word-requires : goal.word-requires
 unfolding DeclarationAt rules.declaration
-word-e-requires c =
+word-requires c =
     room_first _
-    (room_next c.requires.room ((lays_as c.requires.accepted c.declares-d.ensures).of c.requires.tree.0 c.requires.held.1))
+    (room_next c.requires.room ((lays_as c.requires.accepted c.declares.ensures).of c.requires.tree.0 c.requires.held.1))
 
-pub type_expr-f-requires : goal.type_expr-f-requires
+pub type_expr-requires : goal.type_expr-requires
 unfolding DeclarationAt rules.declaration
-type_expr-f-requires c =
+type_expr-requires c =
     rw c.second-p.ensures (record {
       accepted = c.requires.accepted;
       tree = c.requires.tree.1;
       held = c.requires.held.2;
       room =
           room_first _ (room_next
-          (room_next c.requires.room ((lays_as c.requires.accepted c.declares-d.ensures).of c.requires.tree.0 c.requires.held.1))
-          (lays c.word-e.ensures));
+          (room_next c.requires.room ((lays_as c.requires.accepted c.declares.ensures).of c.requires.tree.0 c.requires.held.1))
+          (lays c.word.ensures.laid));
     })
 
-pub word-g-requires : goal.word-g-requires
+pub word-requires-2 : goal.word-requires-2
 unfolding DeclarationAt rules.declaration
-word-g-requires c =
+word-requires-2 c =
     room_first _ (room_next (room_next
-    (room_next c.requires.room ((lays_as c.requires.accepted c.declares-d.ensures).of c.requires.tree.0 c.requires.held.1))
-    (lays c.word-e.ensures))
-    ((lays_as c.requires.accepted c.type_expr-f.ensures).of c.requires.tree.1 (rw c.second-p.ensures c.requires.held.2)))
+    (room_next c.requires.room ((lays_as c.requires.accepted c.declares.ensures).of c.requires.tree.0 c.requires.held.1))
+    (lays c.word.ensures.laid))
+    ((lays_as c.requires.accepted c.type_expr.ensures).of c.requires.tree.1 (rw c.second-p.ensures c.requires.held.2)))
 
-pub expr-h-requires : goal.expr-h-requires
+pub expr-requires : goal.expr-requires
 unfolding DeclarationAt rules.declaration
-expr-h-requires c =
+expr-requires c =
     rw c.third-q.ensures (record {
       accepted = c.requires.accepted;
       tree = c.requires.tree.2;
       held = c.requires.held.3;
       room =
           room_first _ (room_next (room_next (room_next
-          (room_next c.requires.room ((lays_as c.requires.accepted c.declares-d.ensures).of c.requires.tree.0 c.requires.held.1))
-          (lays c.word-e.ensures))
-          ((lays_as c.requires.accepted c.type_expr-f.ensures).of c.requires.tree.1 (rw c.second-p.ensures c.requires.held.2)))
-          (lays c.word-g.ensures));
+          (room_next c.requires.room ((lays_as c.requires.accepted c.declares.ensures).of c.requires.tree.0 c.requires.held.1))
+          (lays c.word.ensures.laid))
+          ((lays_as c.requires.accepted c.type_expr.ensures).of c.requires.tree.1 (rw c.second-p.ensures c.requires.held.2)))
+          (lays c.word-2.ensures.laid));
     })
 
-pub word-requires : goal.word-requires
+pub word-requires-3 : goal.word-requires-3
 unfolding DeclarationAt rules.declaration
-word-requires c =
+word-requires-3 c =
     room_next (room_next (room_next (room_next
-    (room_next c.requires.room ((lays_as c.requires.accepted c.declares-d.ensures).of c.requires.tree.0 c.requires.held.1))
-    (lays c.word-e.ensures))
-    ((lays_as c.requires.accepted c.type_expr-f.ensures).of c.requires.tree.1 (rw c.second-p.ensures c.requires.held.2)))
-    (lays c.word-g.ensures))
-    ((lays_as c.requires.accepted c.expr-h.ensures).of c.requires.tree.2 (rw c.third-q.ensures c.requires.held.3))
+    (room_next c.requires.room ((lays_as c.requires.accepted c.declares.ensures).of c.requires.tree.0 c.requires.held.1))
+    (lays c.word.ensures.laid))
+    ((lays_as c.requires.accepted c.type_expr.ensures).of c.requires.tree.1 (rw c.second-p.ensures c.requires.held.2)))
+    (lays c.word-2.ensures.laid))
+    ((lays_as c.requires.accepted c.expr.ensures).of c.requires.tree.2 (rw c.third-q.ensures c.requires.held.3))
 
 pub returns : goal.returns
 unfolding DeclarationAt rules.declaration
 returns c =
-    laid_as (record {
+    laid_as (cc) (record {
       of =
-          λ x a. lays_then ((lays_as c.requires.accepted c.declares-d.ensures).of x.0 a.1) (lays_then (lays c.word-e.ensures)
-          (lays_then ((lays_as c.requires.accepted c.type_expr-f.ensures).of x.1 (rw c.second-p.ensures a.2))
-          (lays_then (lays c.word-g.ensures) (lays_then
-          ((lays_as c.requires.accepted c.expr-h.ensures).of x.2 (rw c.third-q.ensures a.3))
-          (lays c.word.ensures)))));
+          λ x a. lays_then ((lays_as c.requires.accepted c.declares.ensures).of x.0 a.1) (lays_then (lays c.word.ensures.laid)
+          (lays_then ((lays_as c.requires.accepted c.type_expr.ensures).of x.1 (rw c.second-p.ensures a.2))
+          (lays_then (lays c.word-2.ensures.laid) (lays_then
+          ((lays_as c.requires.accepted c.expr.ensures).of x.2 (rw c.third-q.ensures a.3))
+          (lays c.word-3.ensures.laid)))));
     })

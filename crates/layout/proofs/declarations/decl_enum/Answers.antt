@@ -17,29 +17,29 @@ pub third-q-requires : goal.third-q-requires
 unfolding DeclarationAt
 third-q-requires c = record { second_in_image = within (ident_whole c.requires.held.1); third_in_image = maybe_list _ _ _ c.requires.tree.1 c.requires.held.2 }
 
-pub declares-d-requires : goal.declares-d-requires
+pub declares-requires : goal.declares-requires
 unfolding DeclarationAt rules.declaration
-declares-d-requires c =
+declares-requires c =
     record { accepted = c.requires.accepted; tree = c.requires.tree.0; held = c.requires.held.1; room = room_first _ c.requires.room }
 
-pub some_type_params-e-requires : goal.some_type_params-e-requires
+pub some_type_params-requires : goal.some_type_params-requires
 unfolding DeclarationAt rules.declaration
-some_type_params-e-requires c =
+some_type_params-requires c =
     rw c.second-p.ensures (record {
       accepted = c.requires.accepted;
       tree = c.requires.tree.1;
       held = c.requires.held.2;
       room =
           room_first _
-          (room_next c.requires.room ((lays_as c.requires.accepted c.declares-d.ensures).of c.requires.tree.0 c.requires.held.1));
+          (room_next c.requires.room ((lays_as c.requires.accepted c.declares.ensures).of c.requires.tree.0 c.requires.held.1));
     })
 
-pub word-f-requires : goal.word-f-requires
+pub word-requires : goal.word-requires
 unfolding DeclarationAt rules.declaration
-word-f-requires c =
+word-requires c =
     room_first _ (room_next
-    (room_next c.requires.room ((lays_as c.requires.accepted c.declares-d.ensures).of c.requires.tree.0 c.requires.held.1))
-    ((lays_as c.requires.accepted c.some_type_params-e.ensures).of c.requires.tree.1
+    (room_next c.requires.room ((lays_as c.requires.accepted c.declares.ensures).of c.requires.tree.0 c.requires.held.1))
+    ((lays_as c.requires.accepted c.some_type_params.ensures).of c.requires.tree.1
     (rw c.second-p.ensures c.requires.held.2)))
 
 pub end-requires : goal.end-requires
@@ -50,7 +50,7 @@ end-requires c =
 pub separated-requires : goal.separated-requires
 unfolding DeclarationAt rules.declaration
 separated-requires c =
-    has_each VariantAt variant_rule _ (λ p low high x d h. h) (λ p x y d k r. r.1)
+    has_each VariantAt variant_rule _ (λ p low high x h. h) (λ p x y r. r)
     (rw c.third-q.ensures (record {
       accepted = c.requires.accepted;
       tree = rules.variant_elems _ c.requires.tree.3;
@@ -59,21 +59,21 @@ separated-requires c =
       ended = (rw c.third-q.ensures at c.end.ensures) ∙ c.requires.held.3.end;
       room =
           room_next (room_next
-          (room_next c.requires.room ((lays_as c.requires.accepted c.declares-d.ensures).of c.requires.tree.0 c.requires.held.1))
-          ((lays_as c.requires.accepted c.some_type_params-e.ensures).of c.requires.tree.1
+          (room_next c.requires.room ((lays_as c.requires.accepted c.declares.ensures).of c.requires.tree.0 c.requires.held.1))
+          ((lays_as c.requires.accepted c.some_type_params.ensures).of c.requires.tree.1
           (rw c.second-p.ensures c.requires.held.2)))
-          (lays c.word-f.ensures);
+          (lays c.word.ensures.laid);
     }))
 
 pub returns : goal.returns
 unfolding DeclarationAt rules.declaration
 returns c =
-    laid_as (record {
+    laid_as (cc) (record {
       of =
-          λ x a. lays_then ((lays_as c.requires.accepted c.declares-d.ensures).of x.0 a.1) (lays_then
-          ((lays_as c.requires.accepted c.some_type_params-e.ensures).of x.1 (rw c.second-p.ensures a.2))
-          (lays_then (lays c.word-f.ensures) ((rw c.third-q.ensures
-          at (lays_each VariantAt variant_rule _ (λ p low high x d h. h) (λ p x y d k r. r.1) c.requires.accepted c.separated.ensures)).of
+          λ x a. lays_then ((lays_as c.requires.accepted c.declares.ensures).of x.0 a.1) (lays_then
+          ((lays_as c.requires.accepted c.some_type_params.ensures).of x.1 (rw c.second-p.ensures a.2))
+          (lays_then (lays c.word.ensures.laid) ((rw c.third-q.ensures
+          at (lays_each VariantAt variant_rule _ (λ p low high x h. h) (λ p x y r. r) c.requires.accepted c.separated.ensures)).of
           (rules.variant_elems _ x.3) (list_of a.3 (variant_elems_lem _ _ _ _ x.3 a.4)) x.2
           ((rw c.third-q.ensures at c.end.ensures) ∙ a.3.end))));
     })

@@ -9,19 +9,19 @@ pub start-requires : goal.start-requires
 unfolding DeclarationAt
 start-requires c = import_whole _ _ _ c.requires.tree c.requires.held
 
-pub opening-d-requires : goal.opening-d-requires
+pub opening-requires : goal.opening-requires
 unfolding DeclarationAt rules.declaration
-opening-d-requires c = record { readable = c.requires.accepted; room = room_first _ (rw (← (import_start _ _ _ c.requires.tree c.requires.held), ← c.start.ensures) at c.requires.room) }
+opening-requires c = (room_first _ (rw (← (import_start _ _ _ c.requires.tree c.requires.held), ← c.start.ensures) at c.requires.room))
 
-pub word-e-requires : goal.word-e-requires
+pub word-requires : goal.word-requires
 unfolding DeclarationAt rules.declaration
-word-e-requires c =
+word-requires c =
     room_first _ (room_next (rw (← (import_start _ _ _ c.requires.tree c.requires.held), ← c.start.ensures) at c.requires.room)
-    (lays c.opening-d.ensures))
+    (lays c.opening.ensures.laid))
 
-pub import_path-f-requires : goal.import_path-f-requires
+pub import_path-requires : goal.import_path-requires
 unfolding DeclarationAt rules.declaration
-import_path-f-requires c =
+import_path-requires c =
     record {
       accepted = c.requires.accepted;
       tree = c.requires.tree;
@@ -29,24 +29,24 @@ import_path-f-requires c =
       room =
           room_first _ (room_next (room_next
           (rw (← (import_start _ _ _ c.requires.tree c.requires.held), ← c.start.ensures) at c.requires.room)
-          (lays c.opening-d.ensures))
-          (lays c.word-e.ensures));
+          (lays c.opening.ensures.laid))
+          (lays c.word.ensures.laid));
     }
 
-pub word-requires : goal.word-requires
+pub word-requires-2 : goal.word-requires-2
 unfolding DeclarationAt rules.declaration
-word-requires c =
+word-requires-2 c =
     room_next (room_next (room_next (rw (← (import_start _ _ _ c.requires.tree c.requires.held), ← c.start.ensures) at c.requires.room)
-    (lays c.opening-d.ensures))
-    (lays c.word-e.ensures))
-    ((lays_as c.requires.accepted c.import_path-f.ensures).of c.requires.tree c.requires.held)
+    (lays c.opening.ensures.laid))
+    (lays c.word.ensures.laid))
+    ((lays_as c.requires.accepted c.import_path.ensures).of c.requires.tree c.requires.held)
 
 pub returns : goal.returns
 unfolding DeclarationAt rules.declaration
 returns c =
-    laid_as (record {
+    laid_as (cc) (record {
       of =
-          λ x a. rw (← (import_start _ _ _ x a), ← c.start.ensures) (lays_then (lays c.opening-d.ensures)
-          (lays_then (lays c.word-e.ensures)
-          (lays_then ((lays_as c.requires.accepted c.import_path-f.ensures).of x a) (lays c.word.ensures))));
+          λ x a. rw (← (import_start _ _ _ x a), ← c.start.ensures) (lays_then (lays c.opening.ensures.laid)
+          (lays_then (lays c.word.ensures.laid)
+          (lays_then ((lays_as c.requires.accepted c.import_path.ensures).of x a) (lays c.word-2.ensures.laid))));
     })

@@ -41,36 +41,36 @@ decl_import-requires c =
 
 pub returns-in-10 : goal.returns-in-10
 returns-in-10 c =
-    laid_as (declaration_laid _ (declaration_is _ _ _ 10 (sym c.kind.ensures ∙ c.in-10.is))
+    laid_as (cc) (declaration_laid _ (declaration_is _ _ _ 10 (sym c.kind.ensures ∙ c.in-10.is))
     c.args.first (lays_as c.requires.accepted c.filter_map.ensures))
 
 pub returns-in-11 : goal.returns-in-11
 returns-in-11 c =
-    laid_as (declaration_laid _ (declaration_is _ _ _ 11 (sym c.kind.ensures ∙ c.in-11.is))
+    laid_as (cc) (declaration_laid _ (declaration_is _ _ _ 11 (sym c.kind.ensures ∙ c.in-11.is))
     c.args.first (lays_as c.requires.accepted c.constant.ensures))
 
 pub returns-in-12 : goal.returns-in-12
 returns-in-12 c =
-    laid_as (declaration_laid _ (declaration_is _ _ _ 12 (sym c.kind.ensures ∙ c.in-12.is))
+    laid_as (cc) (declaration_laid _ (declaration_is _ _ _ 12 (sym c.kind.ensures ∙ c.in-12.is))
     c.args.first (lays_as c.requires.accepted c.decl_record.ensures))
 
 pub returns-in-13 : goal.returns-in-13
 returns-in-13 c =
-    laid_as (declaration_laid _ (declaration_is _ _ _ 13 (sym c.kind.ensures ∙ c.in-13.is))
+    laid_as (cc) (declaration_laid _ (declaration_is _ _ _ 13 (sym c.kind.ensures ∙ c.in-13.is))
     c.args.first (lays_as c.requires.accepted c.decl_enum.ensures))
 
 pub returns-in-14 : goal.returns-in-14
 returns-in-14 c =
-    laid_as (declaration_laid _ (declaration_is _ _ _ 14 (sym c.kind.ensures ∙ c.in-14.is))
+    laid_as (cc) (declaration_laid _ (declaration_is _ _ _ 14 (sym c.kind.ensures ∙ c.in-14.is))
     c.args.first (lays_as c.requires.accepted c.function.ensures))
 
 pub returns-in-15 : goal.returns-in-15
 returns-in-15 c =
-    laid_as (declaration_laid _ (declaration_is _ _ _ 15 (sym c.kind.ensures ∙ c.in-15.is))
+    laid_as (cc) (declaration_laid _ (declaration_is _ _ _ 15 (sym c.kind.ensures ∙ c.in-15.is))
     c.args.first (lays_as c.requires.accepted c.test.ensures))
 
 pub returns-in_default : goal.returns-in_default
 returns-in_default c =
-    laid_as (declaration_laid _
+    laid_as (cc) (declaration_laid _
     (declaration_is _ _ _ 16 (omega (arith, c.in_default.in_default-own.rest, c.kind.ensures, declaration_kind _ _ _ c.requires.tree c.requires.held)))
     c.args.first (lays_as c.requires.accepted c.decl_import.ensures))

@@ -7,8 +7,8 @@ use Rattle.layout.proofs.declarations.declarations.Goals as goal
 pub loop-p-init : goal.loop-p-init
 loop-p-init c = (refl, c.requires, λ x e l. l)
 
-pub declaration-d-requires : goal.declaration-d-requires
-declaration-d-requires c =
+pub declaration-requires : goal.declaration-requires
+declaration-requires c =
     let m = declarations_first c.loop-p.first c.loop-p-test.true c.loop-p.invariant.1 in first_has _ m
 
 pub past-p-requires : goal.past-p-requires
@@ -24,11 +24,11 @@ loop-p-smaller c =
 pub loop-p-preserved : goal.loop-p-preserved
 loop-p-preserved c =
     let m = declarations_first c.loop-p.first c.loop-p-test.true c.loop-p.invariant.1 in (
-      c.declaration-d.auto.store ∙ c.loop-p.invariant.0,
-      rw c.past-p.ensures (rest_has _ m (lays_as c.requires.accepted c.declaration-d.ensures)),
+      c.declaration.ensures.same ∙ c.loop-p.invariant.0,
+      rw c.past-p.ensures (rest_has _ m (lays_as c.requires.accepted c.declaration.ensures)),
       λ x e l. c.loop-p.invariant.2 x e (declarations_more c.loop-p.first c.loop-p-test.true
-          (lays_as c.requires.accepted c.declaration-d.ensures) (rw c.past-p.ensures at l)),
+          (lays_as c.requires.accepted c.declaration.ensures) (rw c.past-p.ensures at l)),
     )
 
 pub returns : goal.returns
-returns c = laid_all (c.loop-p.invariant.2 _ _ (declarations_none c.loop-p.first c.loop-p-test.false))
+returns c = laid_all (cc) (c.loop-p.invariant.2 _ _ (declarations_none c.loop-p.first c.loop-p-test.false))

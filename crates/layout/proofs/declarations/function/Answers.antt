@@ -13,44 +13,44 @@ pub third-q-requires : goal.third-q-requires
 unfolding DeclarationAt
 third-q-requires c = record { second_in_image = within (ident_whole c.requires.held.1); third_in_image = within (head_whole c.requires.held.2) }
 
-pub declares-d-requires : goal.declares-d-requires
+pub declares-requires : goal.declares-requires
 unfolding DeclarationAt rules.declaration
-declares-d-requires c =
+declares-requires c =
     record { accepted = c.requires.accepted; tree = c.requires.tree.0; held = c.requires.held.1; room = room_first _ c.requires.room }
 
-pub params-e-requires : goal.params-e-requires
+pub params-requires : goal.params-requires
 unfolding DeclarationAt rules.declaration
-params-e-requires c =
+params-requires c =
     rw c.second-p.ensures (record {
       accepted = c.requires.accepted;
       tree = (c.requires.tree.1, c.requires.tree.2);
       held = (c.requires.held.2, c.requires.held.3);
       room =
           room_first _
-          (room_next c.requires.room ((lays_as c.requires.accepted c.declares-d.ensures).of c.requires.tree.0 c.requires.held.1));
+          (room_next c.requires.room ((lays_as c.requires.accepted c.declares.ensures).of c.requires.tree.0 c.requires.held.1));
     })
 
-pub word-f-requires : goal.word-f-requires
+pub word-requires : goal.word-requires
 unfolding DeclarationAt rules.declaration
-word-f-requires c =
+word-requires c =
     room_first _ (room_next
-    (room_next c.requires.room ((lays_as c.requires.accepted c.declares-d.ensures).of c.requires.tree.0 c.requires.held.1))
-    ((rw c.second-p.ensures at (lays_as c.requires.accepted c.params-e.ensures)).of (c.requires.tree.1, c.requires.tree.2)
+    (room_next c.requires.room ((lays_as c.requires.accepted c.declares.ensures).of c.requires.tree.0 c.requires.held.1))
+    ((rw c.second-p.ensures at (lays_as c.requires.accepted c.params.ensures)).of (c.requires.tree.1, c.requires.tree.2)
     (c.requires.held.2, c.requires.held.3)))
 
-pub return_type-g-requires : goal.return_type-g-requires
+pub return_type-requires : goal.return_type-requires
 unfolding DeclarationAt rules.declaration
-return_type-g-requires c =
+return_type-requires c =
     rw c.third-q.ensures (record {
       accepted = c.requires.accepted;
       tree = c.requires.tree.3;
       held = c.requires.held.4;
       room =
           room_first _ (room_next (room_next
-          (room_next c.requires.room ((lays_as c.requires.accepted c.declares-d.ensures).of c.requires.tree.0 c.requires.held.1))
-          ((rw c.second-p.ensures at (lays_as c.requires.accepted c.params-e.ensures)).of
+          (room_next c.requires.room ((lays_as c.requires.accepted c.declares.ensures).of c.requires.tree.0 c.requires.held.1))
+          ((rw c.second-p.ensures at (lays_as c.requires.accepted c.params.ensures)).of
           (c.requires.tree.1, c.requires.tree.2) (c.requires.held.2, c.requires.held.3)))
-          (lays c.word-f.ensures));
+          (lays c.word.ensures.laid));
     })
 
 pub past-requires : goal.past-requires
@@ -67,22 +67,22 @@ block-requires c =
       held = c.requires.held.5;
       room =
           room_next (room_next (room_next
-          (room_next c.requires.room ((lays_as c.requires.accepted c.declares-d.ensures).of c.requires.tree.0 c.requires.held.1))
-          ((rw c.second-p.ensures at (lays_as c.requires.accepted c.params-e.ensures)).of
+          (room_next c.requires.room ((lays_as c.requires.accepted c.declares.ensures).of c.requires.tree.0 c.requires.held.1))
+          ((rw c.second-p.ensures at (lays_as c.requires.accepted c.params.ensures)).of
           (c.requires.tree.1, c.requires.tree.2) (c.requires.held.2, c.requires.held.3)))
-          (lays c.word-f.ensures))
-          ((lays_as c.requires.accepted c.return_type-g.ensures).of c.requires.tree.3
+          (lays c.word.ensures.laid))
+          ((lays_as c.requires.accepted c.return_type.ensures).of c.requires.tree.3
           (rw c.third-q.ensures c.requires.held.4));
     })
 
 pub returns : goal.returns
 unfolding DeclarationAt rules.declaration
 returns c =
-    laid_as (record {
+    laid_as (cc) (record {
       of =
-          λ x a. lays_then ((lays_as c.requires.accepted c.declares-d.ensures).of x.0 a.1) (lays_then
-          ((rw c.second-p.ensures at (lays_as c.requires.accepted c.params-e.ensures)).of (x.1, x.2) (a.2, a.3))
-          (lays_then (lays c.word-f.ensures) (lays_then
-          ((lays_as c.requires.accepted c.return_type-g.ensures).of x.3 (rw c.third-q.ensures a.4))
+          λ x a. lays_then ((lays_as c.requires.accepted c.declares.ensures).of x.0 a.1) (lays_then
+          ((rw c.second-p.ensures at (lays_as c.requires.accepted c.params.ensures)).of (x.1, x.2) (a.2, a.3))
+          (lays_then (lays c.word.ensures.laid) (lays_then
+          ((lays_as c.requires.accepted c.return_type.ensures).of x.3 (rw c.third-q.ensures a.4))
           ((lays_as c.requires.accepted c.block.ensures).of x.4 (rw (c.past.ensures, c.third-q.ensures) a.5)))));
     })

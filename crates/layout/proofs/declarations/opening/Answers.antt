@@ -2,16 +2,20 @@ use Rattle.layout.specs.Layout as rules
 use Rattle.acts.proofs.Laws.{lays, lays_asking, room_asked, room_asks, lays_asks}
 use Rattle.layout.proofs.declarations.opening.Goals as goal
 
-pub pop_whitespace-a-requires : goal.pop_whitespace-a-requires
+pub pop_whitespace-gap-requires : goal.pop_whitespace-gap-requires
 unfolding rules.opening
-pop_whitespace-a-requires c = record { listed = c.requires.readable.listed; room = room_asked _ _ c.requires.room }
+pop_whitespace-gap-requires c = (room_asked _ _ c.requires)
 
-pub line_between-requires : goal.line_between-requires
+pub between-requires : goal.between-requires
 unfolding rules.opening
-line_between-requires c =
-    room_asks _ c.requires.room (lays_asking c.pop_whitespace-a.ensures)
+between-requires c =
+    record {
+      room =
+          room_asks _ c.requires (lays_asking c.pop_whitespace-gap.ensures.laid);
+      small = tt;
+    }
 
 pub returns : goal.returns
 unfolding rules.opening
 returns c =
-    (lays_asks _ (lays_asking c.pop_whitespace-a.ensures) (lays c.line_between.ensures)).does c.requires.room
+    record { laid = (lays_asks _ (lays_asking c.pop_whitespace-gap.ensures.laid) (lays c.between.ensures.laid)).does c.requires; same = cc }

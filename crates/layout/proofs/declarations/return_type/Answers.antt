@@ -8,24 +8,24 @@ pub is_absent-requires : goal.is_absent-requires
 is_absent-requires c = maybe_type _ _ _ c.requires.tree c.requires.held
 
 pub returns-then-is_absent : goal.returns-then-is_absent
-returns-then-is_absent c = laid_as (no_return (absent c.is_absent.ensures c.if-is_absent.true))
-
-pub word-d-requires : goal.word-d-requires
-word-d-requires c =
-    let h = return_has (present c.is_absent.ensures c.if-is_absent.false) c.requires in
-    room_first _ h.room
-
-pub type_expr-e-requires : goal.type_expr-e-requires
-type_expr-e-requires c =
-    let h = return_has (present c.is_absent.ensures c.if-is_absent.false) c.requires in
-    has_at h (room_first _ (room_next h.room (lays c.word-d.ensures)))
+returns-then-is_absent c = laid_as (cc) (no_return (absent c.is_absent.ensures c.if-is_absent.true))
 
 pub word-requires : goal.word-requires
 word-requires c =
     let h = return_has (present c.is_absent.ensures c.if-is_absent.false) c.requires in
-    room_next (room_next h.room (lays c.word-d.ensures)) ((lays_as c.requires.accepted c.type_expr-e.ensures).of h.tree h.held)
+    room_first _ h.room
+
+pub type_expr-requires : goal.type_expr-requires
+type_expr-requires c =
+    let h = return_has (present c.is_absent.ensures c.if-is_absent.false) c.requires in
+    has_at h (room_first _ (room_next h.room (lays c.word.ensures.laid)))
+
+pub word-requires-2 : goal.word-requires-2
+word-requires-2 c =
+    let h = return_has (present c.is_absent.ensures c.if-is_absent.false) c.requires in
+    room_next (room_next h.room (lays c.word.ensures.laid)) ((lays_as c.requires.accepted c.type_expr.ensures).of h.tree h.held)
 
 pub returns : goal.returns
 returns c =
-    laid_as (some_return (present c.is_absent.ensures c.if-is_absent.false) (lays c.word-d.ensures)
-    (lays_as c.requires.accepted c.type_expr-e.ensures) (lays c.word.ensures))
+    laid_as (cc) (some_return (present c.is_absent.ensures c.if-is_absent.false) (lays c.word.ensures.laid)
+    (lays_as c.requires.accepted c.type_expr.ensures) (lays c.word-2.ensures.laid))

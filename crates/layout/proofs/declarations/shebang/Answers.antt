@@ -16,7 +16,7 @@ pub is_absent-requires : goal.is_absent-requires
 is_absent-requires c = maybe_ident _ _ _ c.requires.tree c.requires.held
 
 pub returns-then-is_absent : goal.returns-then-is_absent
-returns-then-is_absent c = laid_as (no_shebang (absent c.is_absent.ensures c.if-is_absent.true))
+returns-then-is_absent c = laid_as (cc) (no_shebang (absent c.is_absent.ensures c.if-is_absent.true))
 
 pub overflow_add-from : goal.overflow_add-from
 overflow_add-from c =
@@ -42,9 +42,9 @@ pub overflow_sub-size : goal.overflow_sub-size
 overflow_sub-size c =
     let h = has_ident (present c.is_absent.ensures c.if-is_absent.false) c.requires in
     let t =
-    trim_after c.args.b.now (c.args.at + 15) (stop_at c.args.b.now c.args.at) (omega (arith, h.held.starts, h.held.ends))
+    trim_after c.args.parsed.now.image.now (c.args.at + 15) (stop_at c.args.parsed.now.image.now c.args.at) (omega (arith, h.held.starts, h.held.ends))
     in
-    let e : c.trim_end.result ≡ trim_end c.args.b.now (c.args.at + 15) (stop_at c.args.b.now c.args.at) =
+    let e : c.trim_end.result ≡ trim_end c.args.parsed.now.image.now (c.args.at + 15) (stop_at c.args.parsed.now.image.now c.args.at) =
     rw (← c.past.ensures) c.trim_end.ensures
     in
     omega (arith, t, e)
@@ -54,27 +54,29 @@ overflow_cast-from c =
     let h = has_ident (present c.is_absent.ensures c.if-is_absent.false) c.requires in
     omega (arith, c.requires.accepted.small, h.held.head.fits, h.held.starts, h.held.ends)
 
-pub str-d-requires : goal.str-d-requires
-str-d-requires c =
+pub push-requires : goal.push-requires
+push-requires c =
     let h = has_ident (present c.is_absent.ensures c.if-is_absent.false) c.requires in
-    let u = trim_before c.args.b.now (c.args.at + 15) (stop_at c.args.b.now c.args.at) in
-    let e : c.trim_end.result ≡ trim_end c.args.b.now (c.args.at + 15) (stop_at c.args.b.now c.args.at) =
+    let u = trim_before c.args.parsed.now.image.now (c.args.at + 15) (stop_at c.args.parsed.now.image.now c.args.at) in
+    let e : c.trim_end.result ≡ trim_end c.args.parsed.now.image.now (c.args.at + 15) (stop_at c.args.parsed.now.image.now c.args.at) =
     rw (← c.past.ensures) c.trim_end.ensures
     in record {
-      room = room_first _ (subst (λ (z : Act). Room z c.args.c)
+      room = room_first _ (subst (λ (z : Act). Room z c.args.state.now.cursor)
           (sym (shebang_same h.held c.num16.ensures.same refl (rw (c.trim_end.ensures, c.past.ensures)))) h.room);
-      size_le_top = omega (arith, c.requires.accepted.small, h.held.head.fits, u, e);
-      width_le_top = omega (arith, c.num16.ensures.same, c.num16.ensures.small);
+      small = (omega (arith, c.requires.accepted.small, h.held.head.fits, u, e), omega (arith, c.num16.ensures.same, c.num16.ensures.small));
     }
 
-pub empty_line-requires : goal.empty_line-requires
-empty_line-requires c =
-    let h = has_ident (present c.is_absent.ensures c.if-is_absent.false) c.requires in
-    room_next (subst (λ (z : Act). Room z c.args.c)
-    (sym (shebang_same h.held c.num16.ensures.same refl (rw (c.trim_end.ensures, c.past.ensures)))) h.room)
-    (lays c.str-d.ensures)
+pub push-requires-2 : goal.push-requires-2
+push-requires-2 c =
+    record {
+      room = let h = has_ident (present c.is_absent.ensures c.if-is_absent.false) c.requires in
+          room_next (subst (λ (z : Act). Room z c.args.state.now.cursor)
+          (sym (shebang_same h.held c.num16.ensures.same refl (rw (c.trim_end.ensures, c.past.ensures)))) h.room)
+          (lays c.push.ensures.laid);
+      small = tt;
+    }
 
 pub returns : goal.returns
 returns c =
-    laid_as (some_shebang (present c.is_absent.ensures c.if-is_absent.false) c.num16.ensures.same refl
-    (rw (c.trim_end.ensures, c.past.ensures)) (lays c.str-d.ensures) (lays c.empty_line.ensures))
+    laid_as (cc) (some_shebang (present c.is_absent.ensures c.if-is_absent.false) c.num16.ensures.same refl
+    (rw (c.trim_end.ensures, c.past.ensures)) (lays c.push.ensures.laid) (lays c.push-2.ensures.laid))

@@ -9,7 +9,7 @@ pub is_absent-requires : goal.is_absent-requires
 is_absent-requires c = maybe_list _ _ _ c.requires.tree c.requires.held
 
 pub returns-then-is_absent : goal.returns-then-is_absent
-returns-then-is_absent c = laid_as (no_params (absent c.is_absent.ensures c.if-is_absent.true))
+returns-then-is_absent c = laid_as (cc) (no_params (absent c.is_absent.ensures c.if-is_absent.true))
 
 pub overflow_add-at : goal.overflow_add-at
 overflow_add-at c =
@@ -22,7 +22,7 @@ past-requires c =
     record { fits = w.fits }
 
 pub returns-then-at-past : goal.returns-then-at-past
-returns-then-at-past c = laid_as (empty_params (c.if-at-past.true ∙ c.past.ensures))
+returns-then-at-past c = laid_as (cc) (empty_params (c.if-at-past.true ∙ c.past.ensures))
 
 pub type_params-requires : goal.type_params-requires
 type_params-requires c =
@@ -31,5 +31,5 @@ type_params-requires c =
 
 pub returns : goal.returns
 returns c =
-    laid_as (some_params (present c.is_absent.ensures c.if-is_absent.false)
+    laid_as (cc) (some_params (present c.is_absent.ensures c.if-is_absent.false)
     (λ e. c.if-at-past.false (e ∙ sym c.past.ensures)) (lays_as c.requires.accepted c.type_params.ensures))

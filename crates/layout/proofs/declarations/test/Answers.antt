@@ -9,16 +9,16 @@ pub second-p-requires : goal.second-p-requires
 unfolding DeclarationAt
 second-p-requires c = within (ident_whole c.requires.held.1)
 
-pub declares-d-requires : goal.declares-d-requires
+pub declares-requires : goal.declares-requires
 unfolding DeclarationAt rules.declaration
-declares-d-requires c =
+declares-requires c =
     record { accepted = c.requires.accepted; tree = c.requires.tree.0; held = c.requires.held.1; room = room_first _ c.requires.room }
 
-pub word-e-requires : goal.word-e-requires
+pub word-requires : goal.word-requires
 unfolding DeclarationAt rules.declaration
-word-e-requires c =
+word-requires c =
     room_first _
-    (room_next c.requires.room ((lays_as c.requires.accepted c.declares-d.ensures).of c.requires.tree.0 c.requires.held.1))
+    (room_next c.requires.room ((lays_as c.requires.accepted c.declares.ensures).of c.requires.tree.0 c.requires.held.1))
 
 pub block-requires : goal.block-requires
 unfolding DeclarationAt rules.declaration
@@ -29,15 +29,15 @@ block-requires c =
       held = c.requires.held.2;
       room =
           room_next
-          (room_next c.requires.room ((lays_as c.requires.accepted c.declares-d.ensures).of c.requires.tree.0 c.requires.held.1))
-          (lays c.word-e.ensures);
+          (room_next c.requires.room ((lays_as c.requires.accepted c.declares.ensures).of c.requires.tree.0 c.requires.held.1))
+          (lays c.word.ensures.laid);
     })
 
 pub returns : goal.returns
 unfolding DeclarationAt rules.declaration
 returns c =
-    laid_as (record {
+    laid_as (cc) (record {
       of =
-          λ x a. lays_then ((lays_as c.requires.accepted c.declares-d.ensures).of x.0 a.1) (lays_then (lays c.word-e.ensures)
+          λ x a. lays_then ((lays_as c.requires.accepted c.declares.ensures).of x.0 a.1) (lays_then (lays c.word.ensures.laid)
           ((lays_as c.requires.accepted c.block.ensures).of x.1 (rw c.second-p.ensures a.2)));
     })

@@ -1,7 +1,6 @@
 use Rattle.layout.specs.Layout as rules
 use mathlib.Core.Path.{◌≡◌, sym, ◌∙◌}
 use Prim.Native.Nat.{◌+◌}
-use native.Mathlib.Omega.{arith}
 use Rattle.image.specs.Bytes.{be32}
 use Rattle.image.specs.Read.{stop_at}
 use Rattle.acts.proofs.Laws.{lays}
@@ -20,20 +19,15 @@ word-requires c = any_room (sym c.kind.ensures ∙ c.if-kind-eq-UNDERSCORE.true)
 
 pub returns-then-kind-eq-UNDERSCORE : goal.returns-then-kind-eq-UNDERSCORE
 returns-then-kind-eq-UNDERSCORE c =
-    laid_as (any_pattern (sym c.kind.ensures ∙ c.if-kind-eq-UNDERSCORE.true) (lays c.word.ensures))
+    laid_as (cc) (any_pattern (sym c.kind.ensures ∙ c.if-kind-eq-UNDERSCORE.true) (lays c.word.ensures.laid))
 
 pub second-p-requires : goal.second-p-requires
 second-p-requires c =
     let w = pattern_parts (λ e. c.if-kind-eq-UNDERSCORE.false (c.kind.ensures ∙ e)) c.requires in
     within (ident_whole w.name.held)
 
-pub overflow_add-at : goal.overflow_add-at
-overflow_add-at c =
-    let w = pattern_parts (λ e. c.if-kind-eq-UNDERSCORE.false (c.kind.ensures ∙ e)) c.requires in
-    omega (arith, c.requires.accepted.small, w.whole.long, w.whole.fits)
-
-pub ident-d-requires : goal.ident-d-requires
-ident-d-requires c =
+pub ident-requires : goal.ident-requires
+ident-requires c =
     (pattern_parts (λ e. c.if-kind-eq-UNDERSCORE.false (c.kind.ensures ∙ e)) c.requires).name
 
 pub is_absent-requires : goal.is_absent-requires
@@ -43,34 +37,34 @@ is_absent-requires c =
 
 pub returns-then-is_absent : goal.returns-then-is_absent
 returns-then-is_absent c =
-    laid_as
-    (let e : be32 c.args.b.now (stop_at c.args.b.now (c.args.at + 13)) ≡ 0 =
+    laid_as (cc)
+    (let e : be32 c.args.parsed.now.image.now (stop_at c.args.parsed.now.image.now (c.args.at + 13)) ≡ 0 =
     absent (rw c.second-p.ensures at c.is_absent.ensures) c.if-is_absent.true
     in
-    bare_pattern (λ e. c.if-kind-eq-UNDERSCORE.false (c.kind.ensures ∙ e)) e (lays_as c.requires.accepted c.ident-d.ensures))
+    bare_pattern (λ e. c.if-kind-eq-UNDERSCORE.false (c.kind.ensures ∙ e)) e (lays_as c.requires.accepted c.ident.ensures))
 
 pub end-requires : goal.end-requires
 end-requires c =
-    let f : be32 c.args.b.now (stop_at c.args.b.now (c.args.at + 13)) ≡ 0 → ⊥ =
+    let f : be32 c.args.parsed.now.image.now (stop_at c.args.parsed.now.image.now (c.args.at + 13)) ≡ 0 → ⊥ =
     present (rw c.second-p.ensures at c.is_absent.ensures) c.if-is_absent.false
     in
     rw c.second-p.ensures (fields_whole (λ e. c.if-kind-eq-UNDERSCORE.false (c.kind.ensures ∙ e)) f c.requires)
 
 pub separated-requires : goal.separated-requires
 separated-requires c =
-    let f : be32 c.args.b.now (stop_at c.args.b.now (c.args.at + 13)) ≡ 0 → ⊥ =
+    let f : be32 c.args.parsed.now.image.now (stop_at c.args.parsed.now.image.now (c.args.at + 13)) ≡ 0 → ⊥ =
     present (rw c.second-p.ensures at c.is_absent.ensures) c.if-is_absent.false
     in
-    has_each IdentAt rules.ident _ (λ p low high x d h. h) (λ p x y d k r. r.1)
+    has_each IdentAt rules.ident _ (λ p low high x h. h) (λ p x y r. r)
     (rw (c.end.ensures, c.second-p.ensures)
-    (fields_list (λ e. c.if-kind-eq-UNDERSCORE.false (c.kind.ensures ∙ e)) f (lays_as c.requires.accepted c.ident-d.ensures) c.requires))
+    (fields_list (λ e. c.if-kind-eq-UNDERSCORE.false (c.kind.ensures ∙ e)) f (lays_as c.requires.accepted c.ident.ensures) c.requires))
 
 pub returns : goal.returns
 returns c =
-    laid_as
-    (let f : be32 c.args.b.now (stop_at c.args.b.now (c.args.at + 13)) ≡ 0 → ⊥ =
+    laid_as (cc)
+    (let f : be32 c.args.parsed.now.image.now (stop_at c.args.parsed.now.image.now (c.args.at + 13)) ≡ 0 → ⊥ =
     present (rw c.second-p.ensures at c.is_absent.ensures) c.if-is_absent.false
     in
-    full_pattern (λ e. c.if-kind-eq-UNDERSCORE.false (c.kind.ensures ∙ e)) f (lays_as c.requires.accepted c.ident-d.ensures)
+    full_pattern (λ e. c.if-kind-eq-UNDERSCORE.false (c.kind.ensures ∙ e)) f (lays_as c.requires.accepted c.ident.ensures)
     (rw (c.end.ensures, c.second-p.ensures) at
-    (lays_each IdentAt rules.ident _ (λ p low high x d h. h) (λ p x y d k r. r.1) c.requires.accepted c.separated.ensures)))
+    (lays_each IdentAt rules.ident _ (λ p low high x h. h) (λ p x y r. r) c.requires.accepted c.separated.ensures)))

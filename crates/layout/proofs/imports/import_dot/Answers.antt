@@ -2,18 +2,12 @@ use mathlib.Core.Path.{sym, ◌∙◌}
 use Rattle.acts.proofs.Laws.{laid_skip}
 use Rattle.layout.proofs.imports.import_dot.Goals as goal
 
-pub is_absent-requires : goal.is_absent-requires
-is_absent-requires c = c.requires.path_in_image
-
 pub returns-then-is_absent : goal.returns-then-is_absent
-returns-then-is_absent c = rw (sym c.is_absent.ensures ∙ c.if-is_absent.true) laid_skip
-
-pub is_absent-requires-2 : goal.is_absent-requires-2
-is_absent-requires-2 c = c.requires.group_in_image
+returns-then-is_absent c = record { laid = rw (sym c.is_absent.ensures ∙ c.if-is_absent.true) laid_skip; same = cc }
 
 pub returns-then-is_absent-2 : goal.returns-then-is_absent-2
 returns-then-is_absent-2 c =
-    rw (sym c.is_absent.ensures ∙ c.if-is_absent.false, sym c.is_absent-2.ensures ∙ c.if-is_absent-2.true) laid_skip
+    record { laid = rw (sym c.is_absent.ensures ∙ c.if-is_absent.false, sym c.is_absent-2.ensures ∙ c.if-is_absent-2.true) laid_skip; same = cc }
 
 pub word-requires : goal.word-requires
 word-requires c =
@@ -21,5 +15,8 @@ word-requires c =
 
 pub returns : goal.returns
 returns c =
-    rw (sym c.is_absent.ensures ∙ c.if-is_absent.false, sym c.is_absent-2.ensures ∙ c.if-is_absent-2.false)
-    c.word.ensures
+    record {
+      laid = rw (sym c.is_absent.ensures ∙ c.if-is_absent.false, sym c.is_absent-2.ensures ∙ c.if-is_absent-2.false)
+          c.word.ensures.laid;
+      same = cc;
+    }

@@ -21,11 +21,11 @@ overflow_sub-size c =
     let o = range_order _ _ _ c.requires.held.1.range in
     omega (arith, o, c.start-from.ensures, c.end-to.ensures, c.requires.held.1.start, c.requires.held.1.end)
 
-pub ascii-requires : goal.ascii-requires
-ascii-requires c = record { room = rw (c.start-from.ensures, c.end-to.ensures, c.requires.held.1.start, c.requires.held.1.end) c.requires.room; size_le_top = omega arith }
+pub push-requires : goal.push-requires
+push-requires c = record { room = rw (c.start-from.ensures, c.end-to.ensures, c.requires.held.1.start, c.requires.held.1.end) c.requires.room; small = omega arith }
 
 pub returns : goal.returns
 returns c =
-    laid_as (record {
-      of = λ p h. rw (← h.1.start, ← h.1.end, ← c.start-from.ensures, ← c.end-to.ensures) (lays c.ascii.ensures);
+    laid_as (cc) (record {
+      of = λ p h. rw (← h.1.start, ← h.1.end, ← c.start-from.ensures, ← c.end-to.ensures) (lays c.push.ensures.laid);
     })

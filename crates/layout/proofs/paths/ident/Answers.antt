@@ -5,9 +5,9 @@ use Rattle.layout.proofs.IdentLaws.{ident_room, ident_laid}
 use Rattle.layout.proofs.Lays.{laid_as}
 use Rattle.layout.proofs.paths.ident.Goals as goal
 
-pub str-requires : goal.str-requires
-str-requires c = record { room = ident_room c.requires.held c.num16.ensures.same refl (rw c.past.ensures) c.requires.room; size_le_top = omega (arith, c.past.ensures, c.requires.held.head.fits, c.requires.accepted.small); width_le_top = omega (arith, c.num16.ensures.same, c.num16.ensures.small) }
+pub push-requires : goal.push-requires
+push-requires c = record { room = ident_room c.requires.held c.num16.ensures.same refl (rw c.past.ensures) c.requires.room; small = (omega (arith, c.past.ensures, c.requires.held.head.fits, c.requires.accepted.small), omega (arith, c.num16.ensures.same, c.num16.ensures.small)) }
 
 pub returns : goal.returns
 returns c =
-    laid_as (record { of = λ i h. ident_laid h c.num16.ensures.same refl (rw c.past.ensures) (lays c.str.ensures) })
+    laid_as (cc) (record { of = λ i h. ident_laid h c.num16.ensures.same refl (rw c.past.ensures) (lays c.push.ensures.laid) })

@@ -1,11 +1,11 @@
 use Rattle.acts.proofs.Laws.{laid_skip}
 use Rattle.layout.proofs.paths.line_if.Goals as goal
 
-pub line-requires : goal.line-requires
-line-requires c = rw c.if-breaks.true at c.requires
+pub push-requires : goal.push-requires
+push-requires c = record { room = rw c.if-breaks.true at c.requires; small = tt }
 
 pub returns-then-breaks : goal.returns-then-breaks
-returns-then-breaks c = rw c.if-breaks.true c.line.ensures
+returns-then-breaks c = record { laid = rw c.if-breaks.true c.push.ensures.laid; same = cc }
 
 pub returns : goal.returns
-returns c = rw c.if-breaks.false laid_skip
+returns c = record { laid = rw c.if-breaks.false laid_skip; same = cc }

@@ -7,8 +7,8 @@ use Rattle.layout.proofs.paths.path_more.Goals as goal
 pub loop-p-init : goal.loop-p-init
 loop-p-init c = (refl, c.requires, λ x e l. l)
 
-pub path_next-d-requires : goal.path_next-d-requires
-path_next-d-requires c = first_has _ (idents_first _ c.loop-p-test.true c.loop-p.invariant.1)
+pub path_next-requires : goal.path_next-requires
+path_next-requires c = first_has _ (idents_first _ c.loop-p-test.true c.loop-p.invariant.1)
 
 pub past-p-requires : goal.past-p-requires
 past-p-requires c =
@@ -23,11 +23,11 @@ loop-p-smaller c =
 pub loop-p-preserved : goal.loop-p-preserved
 loop-p-preserved c =
     let m = idents_first _ c.loop-p-test.true c.loop-p.invariant.1 in (
-      c.path_next-d.auto.store ∙ c.loop-p.invariant.0,
-      rw c.past-p.ensures (rest_has _ m (lays_as c.requires.accepted c.path_next-d.ensures)),
+      c.path_next.ensures.same ∙ c.loop-p.invariant.0,
+      rw c.past-p.ensures (rest_has _ m (lays_as c.requires.accepted c.path_next.ensures)),
       λ x e l. c.loop-p.invariant.2 x e
-          (idents_more _ c.loop-p-test.true (lays_as c.requires.accepted c.path_next-d.ensures) (rw c.past-p.ensures at l)),
+          (idents_more _ c.loop-p-test.true (lays_as c.requires.accepted c.path_next.ensures) (rw c.past-p.ensures at l)),
     )
 
 pub returns : goal.returns
-returns c = laid_all (c.loop-p.invariant.2 _ _ (idents_none _ c.loop-p-test.false))
+returns c = laid_all (cc) (c.loop-p.invariant.2 _ _ (idents_none _ c.loop-p-test.false))

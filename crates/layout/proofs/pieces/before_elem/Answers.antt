@@ -4,41 +4,44 @@ use Rattle.layout.proofs.pieces.before_elem.Goals as goal
 
 pub gap-requires : goal.gap-requires
 unfolding before_elem
-gap-requires c = record { readable = c.requires.readable; room = room_first _ (room_past (rw c.if-first.true at c.requires.room) (laid_skip {s = c.args.store.now})) }
+gap-requires c = (room_first _ (room_past (rw c.if-first.true at c.requires) (laid_skip {s = c.args.state.now.store.now})))
 
 pub returns-then-first : goal.returns-then-first
 unfolding before_elem
-returns-then-first c = rw c.if-first.true (laid_then laid_skip (laid_then c.gap.ensures laid_skip))
+returns-then-first c = record { laid = rw c.if-first.true (laid_then laid_skip (laid_then c.gap.ensures.laid laid_skip)); same = cc }
 
-pub word-d-requires : goal.word-d-requires
+pub word-requires : goal.word-requires
 unfolding before_elem
-word-d-requires c = room_first _ (rw (c.if-first.false, c.if-commas.true) at c.requires.room)
+word-requires c = room_first _ (rw (c.if-first.false, c.if-commas.true) at c.requires)
 
-pub gap-e-requires : goal.gap-e-requires
+pub gap-requires-then-commas : goal.gap-requires-then-commas
 unfolding before_elem
-gap-e-requires c = record { readable = c.requires.readable; room = room_first _ (room_past (rw (c.if-first.false, c.if-commas.true) at c.requires.room) c.word-d.ensures) }
+gap-requires-then-commas c = (room_first _ (room_past (rw (c.if-first.false, c.if-commas.true) at c.requires) c.word.ensures.laid))
 
-pub line_or_space-requires : goal.line_or_space-requires
+pub push-requires : goal.push-requires
 unfolding before_elem
-line_or_space-requires c =
-    room_past (room_past (rw (c.if-first.false, c.if-commas.true) at c.requires.room) c.word-d.ensures) c.gap-e.ensures
+push-requires c =
+    record { room = room_past (room_past (rw (c.if-first.false, c.if-commas.true) at c.requires) c.word.ensures.laid) c.gap-then-commas.ensures.laid; small = tt }
 
 pub returns-then-commas : goal.returns-then-commas
 unfolding before_elem
 returns-then-commas c =
-    rw (c.if-first.false, c.if-commas.true)
-    (laid_then c.word-d.ensures (laid_then c.gap-e.ensures c.line_or_space.ensures))
+    record {
+      laid = rw (c.if-first.false, c.if-commas.true)
+          (laid_then c.word.ensures.laid (laid_then c.gap-then-commas.ensures.laid c.push.ensures.laid));
+      same = cc;
+    }
 
-pub gap-e-requires-2 : goal.gap-e-requires-2
+pub gap-requires-2 : goal.gap-requires-2
 unfolding before_elem
-gap-e-requires-2 c = record { readable = c.requires.readable; room = room_first _ (room_past (rw (c.if-first.false, c.if-commas.false) at c.requires.room) (laid_skip {s = c.args.store.now})) }
+gap-requires-2 c = (room_first _ (room_past (rw (c.if-first.false, c.if-commas.false) at c.requires) (laid_skip {s = c.args.state.now.store.now})))
 
-pub line_or_space-requires-2 : goal.line_or_space-requires-2
+pub push-requires-2 : goal.push-requires-2
 unfolding before_elem
-line_or_space-requires-2 c =
-    room_past (room_past (rw (c.if-first.false, c.if-commas.false) at c.requires.room) (laid_skip {s = c.args.store.now})) c.gap-e-2.ensures
+push-requires-2 c =
+    record { room = room_past (room_past (rw (c.if-first.false, c.if-commas.false) at c.requires) (laid_skip {s = c.args.state.now.store.now})) c.gap-2.ensures.laid; small = tt }
 
 pub returns : goal.returns
 unfolding before_elem
 returns c =
-    rw (c.if-first.false, c.if-commas.false) (laid_then laid_skip (laid_then c.gap-e-2.ensures c.line_or_space-2.ensures))
+    record { laid = rw (c.if-first.false, c.if-commas.false) (laid_then laid_skip (laid_then c.gap-2.ensures.laid c.push-2.ensures.laid)); same = cc }

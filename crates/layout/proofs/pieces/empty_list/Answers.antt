@@ -1,78 +1,79 @@
 use Rattle.acts.proofs.Laws.{lays, room_first, room_next, lays_then}
-use Rattle.acts.proofs.Nested.{opens_group, room_group, lays_group, opens_indent, room_indent, lays_indent}
+use Rattle.acts.proofs.Closes.{closes_group, closes_indent}
+use Rattle.acts.proofs.Nested.{opens_group, room_group, opens_indent, room_indent}
 use Rattle.layout.specs.Layout.{separated, inside}
 use Rattle.layout.proofs.Lays.{laid_empty}
 use Rattle.layout.proofs.pieces.empty_list.Goals as goal
 
-pub open_group-g-requires : goal.open_group-g-requires
+pub open-group-requires : goal.open-group-requires
 unfolding separated inside
-open_group-g-requires c = opens_group _ c.requires.room
+open-group-requires c = opens_group _ c.requires.room
 
-pub word-d-requires : goal.word-d-requires
+pub word-requires : goal.word-requires
 unfolding separated inside
-word-d-requires c =
-    room_first _ (room_group _ (rw (← c.requires.ended) at c.requires.room) c.open_group-g.ensures)
+word-requires c =
+    room_first _ (room_group _ (rw (← c.requires.ended) at c.requires.room) c.open-group.ensures.opened)
 
-pub line-e-requires : goal.line-e-requires
+pub push-requires : goal.push-requires
 unfolding separated inside
-line-e-requires c =
-    room_first _
-    (room_next (room_group _ (rw (← c.requires.ended) at c.requires.room) c.open_group-g.ensures) (lays c.word-d.ensures))
+push-requires c =
+    record {
+      room = room_first _
+          (room_next (room_group _ (rw (← c.requires.ended) at c.requires.room) c.open-group.ensures.opened) (lays c.word.ensures.laid));
+      small = tt;
+    }
 
-pub open_indent-i-requires : goal.open_indent-i-requires
+pub open-indent-requires : goal.open-indent-requires
 unfolding separated inside
-open_indent-i-requires c =
+open-indent-requires c =
     opens_indent _ (room_first _ (room_next
-    (room_next (room_group _ (rw (← c.requires.ended) at c.requires.room) c.open_group-g.ensures) (lays c.word-d.ensures))
-    (lays c.line-e.ensures)))
+    (room_next (room_group _ (rw (← c.requires.ended) at c.requires.room) c.open-group.ensures.opened) (lays c.word.ensures.laid))
+    (lays c.push.ensures.laid)))
 
-pub gap-f-requires : goal.gap-f-requires
+pub gap-requires : goal.gap-requires
 unfolding separated inside
-gap-f-requires c = record {
-  readable = c.requires.accepted;
-  room = room_indent (room_first _ (room_next
-      (room_next (room_group _ (rw (← c.requires.ended) at c.requires.room) c.open_group-g.ensures) (lays c.word-d.ensures))
-      (lays c.line-e.ensures)))
-      c.open_indent-i.ensures;
-}
+gap-requires c = (room_indent (room_first _ (room_next
+    (room_next (room_group _ (rw (← c.requires.ended) at c.requires.room) c.open-group.ensures.opened) (lays c.word.ensures.laid))
+    (lays c.push.ensures.laid)))
+    c.open-indent.ensures.opened)
 
-pub line-h-requires : goal.line-h-requires
+pub push-requires-2 : goal.push-requires-2
 unfolding separated inside
-line-h-requires c =
-    room_first _ (room_next (room_next
-    (room_next (room_group _ (rw (← c.requires.ended) at c.requires.room) c.open_group-g.ensures) (lays c.word-d.ensures))
-    (lays c.line-e.ensures))
-    (lays_indent c.open_indent-i.ensures (lays c.gap-f.ensures) c.close.ensures))
+push-requires-2 c =
+    record {
+      room = room_first _ (room_next (room_next
+          (room_next (room_group _ (rw (← c.requires.ended) at c.requires.room) c.open-group.ensures.opened) (lays c.word.ensures.laid))
+          (lays c.push.ensures.laid))
+          (closes_indent c.open-indent.ensures (lays c.gap.ensures.laid) c.close.ensures));
+      small = tt;
+    }
 
-pub word-w-requires : goal.word-w-requires
+pub word-requires-2 : goal.word-requires-2
 unfolding separated inside
-word-w-requires c =
+word-requires-2 c =
     room_first _ (room_next (room_next (room_next
-    (room_next (room_group _ (rw (← c.requires.ended) at c.requires.room) c.open_group-g.ensures) (lays c.word-d.ensures))
-    (lays c.line-e.ensures))
-    (lays_indent c.open_indent-i.ensures (lays c.gap-f.ensures) c.close.ensures))
-    (lays c.line-h.ensures))
+    (room_next (room_group _ (rw (← c.requires.ended) at c.requires.room) c.open-group.ensures.opened) (lays c.word.ensures.laid))
+    (lays c.push.ensures.laid))
+    (closes_indent c.open-indent.ensures (lays c.gap.ensures.laid) c.close.ensures))
+    (lays c.push-2.ensures.laid))
 
-pub pop_trailing_comment-t-requires : goal.pop_trailing_comment-t-requires
+pub pop_trailing_comment-requires : goal.pop_trailing_comment-requires
 unfolding separated inside
-pop_trailing_comment-t-requires c = record {
-  listed = c.requires.accepted.listed;
-  room = (room_next (room_next (room_next (room_next
-      (room_next (room_group _ (rw (← c.requires.ended) at c.requires.room) c.open_group-g.ensures) (lays c.word-d.ensures))
-      (lays c.line-e.ensures))
-      (lays_indent c.open_indent-i.ensures (lays c.gap-f.ensures) c.close.ensures))
-      (lays c.line-h.ensures))
-      (lays c.word-w.ensures));
-}
+pop_trailing_comment-requires c = ((room_next (room_next (room_next (room_next
+    (room_next (room_group _ (rw (← c.requires.ended) at c.requires.room) c.open-group.ensures.opened) (lays c.word.ensures.laid))
+    (lays c.push.ensures.laid))
+    (closes_indent c.open-indent.ensures (lays c.gap.ensures.laid) c.close.ensures))
+    (lays c.push-2.ensures.laid))
+    (lays c.word-2.ensures.laid)))
 
 pub returns : goal.returns
 unfolding separated inside
 returns c =
-    laid_empty (record {
+    laid_empty (cc) (record {
       of =
-          λ p e. rw (← e) (lays_group _ c.open_group-g.ensures (lays_then (lays c.word-d.ensures) (lays_then
-          (lays c.line-e.ensures) (lays_then
-          (lays_indent c.open_indent-i.ensures (lays c.gap-f.ensures) c.close.ensures) (lays_then
-          (lays c.line-h.ensures) (lays_then (lays c.word-w.ensures) (lays c.pop_trailing_comment-t.ensures))))))
+          λ p e. rw (← e) (closes_group _ c.open-group.ensures (lays_then (lays c.word.ensures.laid) (lays_then
+          (lays c.push.ensures.laid) (lays_then
+          (closes_indent c.open-indent.ensures (lays c.gap.ensures.laid) c.close.ensures) (lays_then
+          (lays c.push-2.ensures.laid) (lays_then (lays c.word-2.ensures.laid) (lays c.pop_trailing_comment.ensures.laid))))))
           c.close-2.ensures);
     })

@@ -8,27 +8,20 @@ use Rattle.layout.proofs.Listing.{has_each, lays_each}
 use Rattle.layout.proofs.Runs.{list_of, field_elems_lem}
 use Rattle.tree.specs.At.{TypeAt}
 use Rattle.layout.specs.Layout as rules
-use Rattle.layout.proofs.Places.{type_whole, absent, present, within, path_whole, args_within, ident_whole, head_whole}
+use Rattle.layout.proofs.Places.{type_whole, absent, present, within, path_whole, args_within}
 use Rattle.layout.proofs.TypeForms.{never_of, unit_of, type_is, type_kind, type_has, type_laid, args_list, no_args_lem, some_args, args_whole}
 use Rattle.image.specs.Bytes.{be32}
 use Rattle.image.specs.Read.{stop_at}
 use Rattle.layout.proofs.types.+type_expr.Goals as goal
 
-pub field-second-p-requires : goal.field-second-p-requires
-field-second-p-requires t c = within (ident_whole c.requires.held.1)
-
-pub field-overflow_add-at : goal.field-overflow_add-at
-field-overflow_add-at t c =
-    omega (arith, c.requires.accepted.small, c.requires.held.0.long, c.requires.held.0.fits)
-
-pub field-ident-d-requires : goal.field-ident-d-requires
-field-ident-d-requires t c =
+pub field-ident-requires : goal.field-ident-requires
+field-ident-requires t c =
     record { accepted = c.requires.accepted; tree = c.requires.tree.1; held = c.requires.held.1; room = room_first _ c.requires.room }
 
-pub field-word-e-requires : goal.field-word-e-requires
-field-word-e-requires t c =
+pub field-word-requires : goal.field-word-requires
+field-word-requires t c =
     room_first _
-    (room_next c.requires.room ((lays_as c.requires.accepted c.ident-d.ensures).of c.requires.tree.1 c.requires.held.1))
+    (room_next c.requires.room ((lays_as c.requires.accepted c.ident.ensures).of c.requires.tree.1 c.requires.held.1))
 
 pub field-type_expr-requires : goal.field-type_expr-requires
 field-type_expr-requires t c =
@@ -40,26 +33,23 @@ field-type_expr-requires t c =
         held = c.requires.held.2;
         room =
             room_next (room_next c.requires.room
-            ((lays_as c.requires.accepted c.ident-d.ensures).of c.requires.tree.1 c.requires.held.1))
-            (lays c.word-e.ensures);
+            ((lays_as c.requires.accepted c.ident.ensures).of c.requires.tree.1 c.requires.held.1))
+            (lays c.word.ensures.laid);
       },
     )
 
 pub field-returns : goal.field-returns
 field-returns t c =
-    laid_as
+    laid_as (cc)
     (record {
       of =
-          λ x a. lays_then ((lays_as c.requires.accepted c.ident-d.ensures).of x.1 a.1) (lays_then (lays c.word-e.ensures)
+          λ x a. lays_then ((lays_as c.requires.accepted c.ident.ensures).of x.1 a.1) (lays_then (lays c.word.ensures.laid)
           ((lays_as c.requires.accepted c.type_expr.ensures).of x.2 (rw c.second-p.ensures a.2)));
     })
 
-pub record_type-end-requires : goal.record_type-end-requires
-record_type-end-requires t c = head_whole c.requires.held.0
-
 pub record_type-separated-requires : goal.record_type-separated-requires
 record_type-separated-requires t c =
-    has_each FieldAt field_rule _ (λ p low high x d h. (omega (arith, c.decreases, low, high), h)) (λ p x y d k r. r.1)
+    has_each FieldAt field_rule _ (λ p low high x h. (omega (arith, c.decreases, low, high), h)) (λ p x y r. r)
     ((record {
       accepted = c.requires.accepted;
       tree = rules.field_elems _ c.requires.tree.1;
@@ -71,23 +61,18 @@ record_type-separated-requires t c =
 
 pub record_type-returns : goal.record_type-returns
 record_type-returns t c =
-    laid_as (record {
+    laid_as (cc) (record {
       of =
-          λ x a. (lays_each FieldAt field_rule _ (λ p low high x d h. (omega (arith, c.decreases, low, high), h)) (λ p x y d k r. r.1) c.requires.accepted c.separated.ensures).of (rules.field_elems _ x.1)
+          λ x a. (lays_each FieldAt field_rule _ (λ p low high x h. (omega (arith, c.decreases, low, high), h)) (λ p x y r. r) c.requires.accepted c.separated.ensures).of (rules.field_elems _ x.1)
           (list_of a.0 (field_elems_lem _ _ _ _ x.1 a.1)) x.0 (c.end.ensures ∙ a.0.end);
     })
 
 pub type_expr-kind-requires : goal.type_expr-kind-requires
 type_expr-kind-requires t c = type_whole _ _ _ c.requires.tree c.requires.held
 
-pub type_expr-overflow_add-at : goal.type_expr-overflow_add-at
-type_expr-overflow_add-at t c =
-    let w = type_whole _ _ _ c.requires.tree c.requires.held in
-    omega (arith, c.requires.accepted.small, w.long, w.fits)
-
-pub type_expr-type_expr-d-requires : goal.type_expr-type_expr-d-requires
+pub type_expr-type_expr-requires : goal.type_expr-type_expr-requires
 unfolding TypeAt rules.type_form
-type_expr-type_expr-d-requires t c =
+type_expr-type_expr-requires t c =
     let h = type_has _ (type_is _ _ _ 40 (sym c.kind.ensures ∙ c.in-40.is)) c.requires in (
       omega (arith, c.decreases, h.held.1.1.same),
       record { accepted = c.requires.accepted; tree = h.tree.1; held = h.held.1.0; room = room_first _ h.room },
@@ -97,7 +82,7 @@ pub type_expr-word-requires : goal.type_expr-word-requires
 unfolding TypeAt rules.type_form
 type_expr-word-requires t c =
     let h = type_has _ (type_is _ _ _ 40 (sym c.kind.ensures ∙ c.in-40.is)) c.requires in
-    room_next h.room ((lays_as c.requires.accepted c.type_expr-d.ensures).of h.tree.1 h.held.1.0)
+    room_next h.room ((lays_as c.requires.accepted c.type_expr.ensures).of h.tree.1 h.held.1.0)
 
 pub type_expr-type_path-requires : goal.type_expr-type_path-requires
 type_expr-type_path-requires t c =
@@ -133,33 +118,33 @@ type_expr-record_type-requires t c =
 pub type_expr-returns-in-40 : goal.type_expr-returns-in-40
 unfolding TypeAt rules.type_form
 type_expr-returns-in-40 t c =
-    laid_as (type_laid _ (type_is _ _ _ 40 (sym c.kind.ensures ∙ c.in-40.is)) (record {
+    laid_as (cc) (type_laid _ (type_is _ _ _ 40 (sym c.kind.ensures ∙ c.in-40.is)) (record {
       of =
-          λ x a. lays_then ((lays_as c.requires.accepted c.type_expr-d.ensures).of x.1 a.1.0)
-          (lays c.word.ensures);
+          λ x a. lays_then ((lays_as c.requires.accepted c.type_expr.ensures).of x.1 a.1.0)
+          (lays c.word.ensures.laid);
     }))
 
 pub type_expr-returns-in-41 : goal.type_expr-returns-in-41
 type_expr-returns-in-41 t c =
-    laid_as (type_laid _ (type_is _ _ _ 41 (sym c.kind.ensures ∙ c.in-41.is))
+    laid_as (cc) (type_laid _ (type_is _ _ _ 41 (sym c.kind.ensures ∙ c.in-41.is))
     (lays_as c.requires.accepted c.type_path.ensures))
 
 pub type_expr-returns-in-42 : goal.type_expr-returns-in-42
 unfolding rules.type_form
 type_expr-returns-in-42 t c =
-    laid_as (type_laid never_of (type_is _ _ _ 42 (sym c.kind.ensures ∙ c.in-42.is))
-    (record { of = λ x a. lays c.word-in-42.ensures }))
+    laid_as (cc) (type_laid never_of (type_is _ _ _ 42 (sym c.kind.ensures ∙ c.in-42.is))
+    (record { of = λ x a. lays c.word-in-42.ensures.laid }))
 
 pub type_expr-returns-in-43 : goal.type_expr-returns-in-43
 unfolding rules.type_form
 type_expr-returns-in-43 t c =
-    laid_as (type_laid unit_of (type_is _ _ _ 43 (sym c.kind.ensures ∙ c.in-43.is))
-    (record { of = λ x a. lays c.word-in-43.ensures }))
+    laid_as (cc) (type_laid unit_of (type_is _ _ _ 43 (sym c.kind.ensures ∙ c.in-43.is))
+    (record { of = λ x a. lays c.word-in-43.ensures.laid }))
 
 pub type_expr-returns-in_default : goal.type_expr-returns-in_default
 unfolding TypeAt rules.type_form
 type_expr-returns-in_default t c =
-    laid_as (type_laid _
+    laid_as (cc) (type_laid _
     (type_is _ _ _ 44 (omega (arith, c.in_default.in_default-own.rest, c.kind.ensures, type_kind _ _ _ c.requires.tree c.requires.held)))
     (record { of = λ x a. (lays_as c.requires.accepted c.record_type.ensures).of (x.1.0, x.1.1) (a.1.0, a.1.1) }))
 
@@ -167,14 +152,9 @@ pub type_path-second-p-requires : goal.type_path-second-p-requires
 unfolding TypeAt
 type_path-second-p-requires t c = within (path_whole c.requires.held.1.0)
 
-pub type_path-overflow_add-at : goal.type_path-overflow_add-at
-unfolding TypeAt
-type_path-overflow_add-at t c =
-    omega (arith, c.requires.accepted.small, c.requires.held.0.long, c.requires.held.0.fits)
-
-pub type_path-path-d-requires : goal.type_path-path-d-requires
+pub type_path-path-requires : goal.type_path-path-requires
 unfolding TypeAt rules.type_form
-type_path-path-d-requires t c =
+type_path-path-requires t c =
     record { accepted = c.requires.accepted; tree = c.requires.tree.1.0; held = c.requires.held.1.0; room = room_first _ c.requires.room }
 
 pub type_path-is_absent-requires : goal.type_path-is_absent-requires
@@ -185,16 +165,16 @@ type_path-is_absent-requires t c =
 pub type_path-returns-then-is_absent : goal.type_path-returns-then-is_absent
 unfolding TypeAt rules.type_form
 type_path-returns-then-is_absent t c =
-    laid_as
-    (let e : be32 c.args.b.now (stop_at c.args.b.now (c.args.at + 13)) ≡ 0 =
+    laid_as (cc)
+    (let e : be32 c.args.parsed.now.image.now (stop_at c.args.parsed.now.image.now (c.args.at + 13)) ≡ 0 =
     absent (rw c.second-p.ensures at c.is_absent.ensures) c.if-is_absent.true
     in
-    record { of = λ x a. lays_then ((lays_as c.requires.accepted c.path-d.ensures).of x.1.0 a.1.0) ((no_args_lem e).of x.1.1 a.1.1) })
+    record { of = λ x a. lays_then ((lays_as c.requires.accepted c.path.ensures).of x.1.0 a.1.0) ((no_args_lem e).of x.1.1 a.1.1) })
 
 pub type_path-end-requires : goal.type_path-end-requires
 unfolding TypeAt
 type_path-end-requires t c =
-    let f : be32 c.args.b.now (stop_at c.args.b.now (c.args.at + 13)) ≡ 0 → ⊥ =
+    let f : be32 c.args.parsed.now.image.now (stop_at c.args.parsed.now.image.now (c.args.at + 13)) ≡ 0 → ⊥ =
     present (rw c.second-p.ensures at c.is_absent.ensures) c.if-is_absent.false
     in
     rw c.second-p.ensures (args_whole _ _ _ f c.requires.tree.1.1 c.requires.held.1.1)
@@ -202,8 +182,8 @@ type_path-end-requires t c =
 pub type_path-separated-requires : goal.type_path-separated-requires
 unfolding TypeAt rules.type_form
 type_path-separated-requires t c =
-    has_each TypeAt rules.type_expr _ (λ p low high x d h. (omega (arith, c.decreases, low, high, c.second-p.ensures, ap (λ (n : ℕ). stop_at c.args.b.now n) c.second-p.ensures, c.requires.held.1.2.same), h)) (λ p x y d k r. r.1)
-    (let f : be32 c.args.b.now (stop_at c.args.b.now (c.args.at + 13)) ≡ 0 → ⊥ =
+    has_each TypeAt rules.type_expr _ (λ p low high x h. (omega (arith, c.decreases, low, high, c.second-p.ensures, ap (λ (n : ℕ). stop_at c.args.parsed.now.image.now n) c.second-p.ensures, c.requires.held.1.2.same), h)) (λ p x y r. r)
+    (let f : be32 c.args.parsed.now.image.now (stop_at c.args.parsed.now.image.now (c.args.at + 13)) ≡ 0 → ⊥ =
     present (rw c.second-p.ensures at c.is_absent.ensures) c.if-is_absent.false
     in
     rw (c.end.ensures, c.second-p.ensures) (args_list f (record {
@@ -212,17 +192,17 @@ type_path-separated-requires t c =
       held = c.requires.held.1.1;
       room =
           room_next c.requires.room
-          ((lays_as c.requires.accepted c.path-d.ensures).of c.requires.tree.1.0 c.requires.held.1.0);
+          ((lays_as c.requires.accepted c.path.ensures).of c.requires.tree.1.0 c.requires.held.1.0);
     })))
 
 pub type_path-returns : goal.type_path-returns
 unfolding TypeAt rules.type_form
 type_path-returns t c =
-    laid_as
-    (let f : be32 c.args.b.now (stop_at c.args.b.now (c.args.at + 13)) ≡ 0 → ⊥ =
+    laid_as (cc)
+    (let f : be32 c.args.parsed.now.image.now (stop_at c.args.parsed.now.image.now (c.args.at + 13)) ≡ 0 → ⊥ =
     present (rw c.second-p.ensures at c.is_absent.ensures) c.if-is_absent.false
     in
-    let l = rw (c.end.ensures, c.second-p.ensures) at (lays_each TypeAt rules.type_expr _ (λ p low high x d h. (omega (arith, c.decreases, low, high, c.second-p.ensures, ap (λ (n : ℕ). stop_at c.args.b.now n) c.second-p.ensures, c.requires.held.1.2.same), h)) (λ p x y d k r. r.1) c.requires.accepted c.separated.ensures) in
+    let l = rw (c.end.ensures, c.second-p.ensures) at (lays_each TypeAt rules.type_expr _ (λ p low high x h. (omega (arith, c.decreases, low, high, c.second-p.ensures, ap (λ (n : ℕ). stop_at c.args.parsed.now.image.now n) c.second-p.ensures, c.requires.held.1.2.same), h)) (λ p x y r. r) c.requires.accepted c.separated.ensures) in
     record {
-      of = λ x a. lays_then ((lays_as c.requires.accepted c.path-d.ensures).of x.1.0 a.1.0) ((some_args f l).of x.1.1 a.1.1);
+      of = λ x a. lays_then ((lays_as c.requires.accepted c.path.ensures).of x.1.0 a.1.0) ((some_args f l).of x.1.1 a.1.1);
     })

@@ -1,18 +1,14 @@
 use mathlib.Core.Path.{◌∙◌}
 use Rattle.layout.specs.Layout as rules
 use Rattle.layout.proofs.Lays.{laid_as}
-use Rattle.layout.proofs.Places.{head_whole}
 use Rattle.layout.specs.Elems.{FieldAt, field_rule}
 use Rattle.layout.proofs.Listing.{has_each, lays_each}
 use Rattle.layout.proofs.Runs.{list_of, field_elems_lem}
 use Rattle.layout.proofs.types.params.Goals as goal
 
-pub end-requires : goal.end-requires
-end-requires c = head_whole c.requires.held.0
-
 pub separated-requires : goal.separated-requires
 separated-requires c =
-    has_each FieldAt field_rule _ (λ p low high x d h. h) (λ p x y d k r. r.1)
+    has_each FieldAt field_rule _ (λ p low high x h. h) (λ p x y r. r)
     (record {
       accepted = c.requires.accepted;
       tree = rules.field_elems _ c.requires.tree.1;
@@ -24,8 +20,8 @@ separated-requires c =
 
 pub returns : goal.returns
 returns c =
-    laid_as (record {
+    laid_as (cc) (record {
       of =
-          λ x a. (lays_each FieldAt field_rule _ (λ p low high x d h. h) (λ p x y d k r. r.1) c.requires.accepted c.separated.ensures).of (rules.field_elems _ x.1)
+          λ x a. (lays_each FieldAt field_rule _ (λ p low high x h. h) (λ p x y r. r) c.requires.accepted c.separated.ensures).of (rules.field_elems _ x.1)
           (list_of a.0 (field_elems_lem _ _ _ _ x.1 a.1)) x.0 (c.end.ensures ∙ a.0.end);
     })

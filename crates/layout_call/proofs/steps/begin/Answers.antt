@@ -1,10 +1,11 @@
+use mathlib.Core.Path.{refl}
 use native.Mathlib.Omega.{arith}
 use Rattle.acts.proofs.Laws.{laid_skip}
 use Rattle.layout_call.proofs.Standing.{stands, has_shebang, shebang_laid}
 use Rattle.layout_call.proofs.steps.begin.Goals as goal
 
 pub returns-then-begun : goal.returns-then-begun
-returns-then-begun c = rw c.if-begun.true laid_skip
+returns-then-begun c = rw c.if-begun.true (record { laid = laid_skip; same = refl })
 
 pub overflow_add-file : goal.overflow_add-file
 overflow_add-file c =
@@ -12,8 +13,11 @@ overflow_add-file c =
 
 pub shebang-requires : goal.shebang-requires
 shebang-requires c =
-    has_shebang c.args.file.accepts (rw c.if-begun.false at c.requires)
+    rw (c.parsed-parsed.ensures.0, c.parsed-parsed.ensures.1)
+    (has_shebang c.args.file.accepts (rw c.if-begun.false at c.requires))
 
 pub returns : goal.returns
 returns c =
-    rw c.if-begun.false (shebang_laid c.args.file.accepts c.shebang.ensures (rw c.if-begun.false at c.requires))
+    let p = c.parsed-parsed.ensures in
+    rw c.if-begun.false
+    (shebang_laid c.args.file.accepts _ p.0 p.1 c.shebang.ensures (rw c.if-begun.false at c.requires))

@@ -1,6 +1,5 @@
 use Rattle.std.proofs.Common.{sym, ap, ◌∙◌, arith}
 use Rattle.image.specs.Read.{stop_at}
-use Rattle.layout_call.specs.Steps.{start_of}
 use Rattle.layout_call.proofs.Standing.{first_in, starts_first, record_in, goes_on}
 use Rattle.layout_call.proofs.steps.declaration_at.Goals as goal
 
@@ -20,6 +19,3 @@ loop-preserved c = (
   c.past-p.ensures ∙ ap (stop_at _) c.loop.invariant.1
       ∙ goes_on c.args.file.accepts c.loop.counter (omega (arith, c.requires, c.loop-test.true)),
 )
-
-pub returns : goal.returns
-returns c = c.loop.invariant.1 ∙ ap (start_of _ _ _) (omega (arith, c.loop.invariant.0, c.loop-test.false))

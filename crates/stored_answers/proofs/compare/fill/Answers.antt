@@ -1,10 +1,7 @@
-use mathlib.Core.Path.{refl, ap, ◌∙◌}
+use mathlib.Core.Path.{ap, ◌∙◌}
 use Rattle.stored_answers.specs.declared.numbers.Reader.{Reader}
-use Rattle.stored_answers.proofs.Listing.{filling_start, filling_more, filling_end}
+use Rattle.stored_answers.proofs.Listing.{filling_more}
 use Rattle.stored_answers.proofs.compare.fill.Goals as goal
-
-pub loop-i-init : goal.loop-i-init
-loop-i-init g c = (refl, filling_start _ _ _ _)
 
 pub loop-i-preserved : goal.loop-i-preserved
 loop-i-preserved g c = (
@@ -12,6 +9,3 @@ loop-i-preserved g c = (
   filling_more _ _ _ _ _ _ _ _ _ c.loop-i.invariant.1 c.loop-i-test.true (rw c.loop-i.invariant.0 at c.read.ensures.value)
       (ap (λ (r : Reader). r.place) c.read.ensures.goes),
 )
-
-pub returns : goal.returns
-returns g c = filling_end _ _ _ _ _ _ _ c.loop-i.invariant.1 c.loop-i-test.false

@@ -1,4 +1,4 @@
-use mathlib.Core.Path.{◌≡◌, refl, sym, ap, ap₂, ◌∙◌}
+use mathlib.Core.Path.{◌≡◌, sym, ap, ap₂, ◌∙◌}
 use mathlib.Core.List.{List, ◌∷◌}
 use Prim.Native.Nat.{ℕ, ◌+◌, ◌-◌, ◌≤◌, ◌<◌}
 use native.Mathlib.Omega.{arith}
@@ -48,12 +48,6 @@ module _ {s : List ℕ} {from to at count place : ℕ} (g : Going s from to at c
 -- the same, of numbers that are equal
 told : {s : List ℕ} {from to at a b m n : ℕ} → Going s from to at a b → m ≡ a → n ≡ b → Going s from to at m n
 told g p q = rw (p, q) g
-
-pub loop-at-init : goal.loop-at-init
-loop-at-init c = record { low = omega arith; high = c.requires.0; few = omega arith; many = omega arith; last = refl }
-
-pub overflow_add-count : goal.overflow_add-count
-overflow_add-count c = omega (arith, c.loop-at.invariant.few)
 
 pub loop-at-preserved : goal.loop-at-preserved
 loop-at-preserved c =

@@ -1,30 +1,23 @@
 use mathlib.Core.Path.{sym, ◌∙◌}
-use native.Mathlib.Omega.{arith}
-use Rattle.text.proofs.Characters.{before_inside}
-use Rattle.text.proofs.Walks.{trim_start, trim_next, trim_nothing, trim_text}
+use Rattle.text.proofs.Walks.{left_start, left_next, left_nothing, left_text, left_none}
 use Rattle.text.proofs.space.trim_end.Goals as goal
+use Rattle.text.proofs.space.trim_end.Goals.{in-Some-last_char+then-not-is_whitespace, in_default-last_char}
+
+pub returns-in_default : goal.returns-in_default
+returns-in_default c = left_none _ _ _ c.in_default.ensures.lookup.0
 
 pub loop-last-init : goal.loop-last-init
-loop-last-init c = trim_start _ _ _
-
-pub overflow_sub-end : goal.overflow_sub-end
-overflow_sub-end c =
-    let inside = before_inside c.args.s.now c.args.from c.loop-last.end c.in-Some.last (sym c.char_before.ensures ∙ c.in-Some.is) in omega arith
-
-pub loop-last-smaller : goal.loop-last-smaller
-loop-last-smaller c =
-    let inside = before_inside c.args.s.now c.args.from c.loop-last.end c.in-Some.last (sym c.char_before.ensures ∙ c.in-Some.is) in omega arith
+loop-last-init c = let range = c.in-Some.ensures.lookup.0 in rw range.2 (left_start _ _ _ range.0 range.1)
 
 pub loop-last-preserved : goal.loop-last-preserved
 loop-last-preserved c =
-    let e = sym c.char_before.ensures ∙ c.in-Some.is in
-    let inside = before_inside c.args.s.now c.args.from c.loop-last.end c.in-Some.last e in
-    trim_next _ _ _ _ c.in-Some.last (omega arith) e (sym c.is_whitespace.ensures ∙ c.if-not-is_whitespace.false) c.loop-last.invariant
+    left_next _ _ _ _ _ (sym c.last_char.ensures ∙ c.in-Some-last_char.is) (sym c.is_whitespace.ensures ∙ c.if-not-is_whitespace.false) c.loop-last.invariant
 
-pub returns-then-not-is_whitespace : goal.returns-then-not-is_whitespace
-returns-then-not-is_whitespace c =
-    trim_text _ _ _ _ c.in-Some.last (sym c.char_before.ensures ∙ c.in-Some.is)
-    (sym c.is_whitespace.ensures ∙ c.if-not-is_whitespace.true) c.loop-last.invariant
-
-pub returns-in_default : goal.returns-in_default
-returns-in_default c = trim_nothing _ _ _ _ (sym c.char_before.ensures ∙ c.in_default.is) c.loop-last.invariant
+pub returns : goal.returns
+returns c =
+    elim c.match-last_char.branch [
+      | in-Some-last_char+then-not-is_whitespace w ↦
+          left_text _ _ _ _ _ (sym c.last_char.ensures ∙ w.in-Some-last_char.is) (sym w.is_whitespace.ensures ∙ w.if-not-is_whitespace.true)
+          c.loop-last.invariant
+      | in_default-last_char w ↦ left_nothing _ _ _ _ (sym c.last_char.ensures ∙ w.in_default-last_char.is) c.loop-last.invariant
+    ]

@@ -1,10 +1,11 @@
--- The loop's invariant, `Trimming`: the answer is what trimming from `end` on gives. A white space before `end` is one step of `trim`.
-use Prim.Native.Nat.{◌-◌}
-use Rattle.text.proofs.Walks.{Trimming}
+-- The loop's invariant, `Left`: the text is what is left of the range, and the answer is what trimming from its end on gives. A white space
+-- before the end is one step of `trim`.
+use lib.ListN.{length}
+use Rattle.text.proofs.Walks.{Left}
 use Rattle.text.proofs.space.trim_end.Given as goal
 
 abbrev pub invariant-loop-last : goal.invariant-loop-last
-invariant-loop-last l = Trimming l.s l.from l.to l.end
+invariant-loop-last l = Left l.s l.from l.to l.text
 
 abbrev pub decreases-loop-last : goal.decreases-loop-last
-decreases-loop-last l = l.end - l.from
+decreases-loop-last l = length l.text

@@ -14,15 +14,6 @@ pub returns-in_err-first : goal.returns-in_err-first
 unfolding sequence
 returns-in_err-first c = grind (arith, nat_tests, c.in_err-first.ensures)
 
-pub is_second-requires : goal.is_second-requires
-is_second-requires c = omega (arith, row_two c.in_ok-first.field-0.now (omega arith) (omega arith))
-
-pub is_second-requires-in-224-to-239 : goal.is_second-requires-in-224-to-239
-is_second-requires-in-224-to-239 c = omega (arith, row_three c.in_ok-first.field-0.now (omega arith) (omega arith))
-
-pub is_second-requires-in-240-to-244 : goal.is_second-requires-in-240-to-244
-is_second-requires-in-240-to-244 c = omega (arith, row_four c.in_ok-first.field-0.now (omega arith) (omega arith))
-
 pub returns-in-0-to-127 : goal.returns-in-0-to-127
 returns-in-0-to-127 c =
     let first = c.in_ok-first.ensures.lookup.3 in sequence_one _ _ _ first.0 (first.1 0) (omega arith)
@@ -35,7 +26,9 @@ returns-in-194-to-223 c =
 pub returns-after-is_second : goal.returns-after-is_second
 returns-after-is_second c =
     let first = c.in_ok-first.ensures.lookup.3 in
-    c.then_some-in-224-to-239.ensures ∙ sequence_three _ _ _ first.0 (first.1 0) _ (row_three _ (omega arith) (omega arith)) (rw (← c.byte-in-224-to-239.ensures, ← c.is_second-in-224-to-239.ensures)
+    c.then_some-in-224-to-239.ensures
+    ∙ sequence_three _ _ _ first.0 (first.1 0) _ (row_three _ (omega arith) (omega arith))
+    (rw (← c.byte-in-224-to-239.ensures, ← c.is_second-in-224-to-239.ensures)
     (elim c.if-is_second.branch [
       | then-is_second w ↦ rw w.if-is_second.true (w.then_some-is ∙ rw w.byte-then-is_second.ensures at w.is_continuation.ensures)
       | else-is_second w ↦ rw w.if-is_second.false (w.then_some-is ∙ w.if-is_second.false)
@@ -49,9 +42,12 @@ returns-after-is_continuation c =
       | then-is_second-2 w ↦ rw w.if-is_second-2.true (w.value-is ∙ rw w.byte-then-is_second-2.ensures at w.is_continuation-then-is_second-2.ensures)
       | else-is_second-2 w ↦ rw w.if-is_second-2.false (w.value-is ∙ w.if-is_second-2.false)
     ] in
-    c.then_some-in-240-to-244.ensures ∙ sequence_four _ _ _ first.0 (first.1 0) _ (row_four _ (omega arith) (omega arith)) (rw (← c.byte-in-240-to-244.ensures, ← c.is_second-in-240-to-244.ensures, ← three)
+    c.then_some-in-240-to-244.ensures
+    ∙ sequence_four _ _ _ first.0 (first.1 0) _ (row_four _ (omega arith) (omega arith))
+    (rw (← c.byte-in-240-to-244.ensures, ← c.is_second-in-240-to-244.ensures, ← three)
     (elim c.if-is_continuation.branch [
-      | then-is_continuation w ↦ rw w.if-is_continuation.true (w.then_some-is ∙ rw w.byte-then-is_continuation.ensures at w.is_continuation-then-is_continuation.ensures)
+      | then-is_continuation w ↦
+          rw w.if-is_continuation.true (w.then_some-is ∙ rw w.byte-then-is_continuation.ensures at w.is_continuation-then-is_continuation.ensures)
       | else-is_continuation w ↦ rw w.if-is_continuation.false (w.then_some-is ∙ w.if-is_continuation.false)
     ]))
 

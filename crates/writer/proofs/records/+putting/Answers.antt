@@ -1,188 +1,176 @@
-use mathlib.Core.Path.{refl, sym, ap, ◌∙◌}
+use mathlib.Core.Path.{◌≡◌, refl, sym, ap, ◌∙◌}
 use mathlib.Core.List.{List}
-use Prim.Native.Nat.{suc, ◌+◌, ◌-◌, ℕ}
+use Prim.Native.Nat.{suc, ◌+◌, ◌-◌, ◌≤◌, ℕ}
+use Rattle.image.specs.Bytes.{part}
+use Rattle.image.proofs.Exact.{part_length}
 use native.Mathlib.Omega.{arith}
 use lib.ListN.{length}
-use Rattle.std.specs.Prelude.{Result, Ok}
+use Rattle.std.specs.Prelude.{Result}
 use Rattle.refusals.specs.declared.Refused.{Refused}
+use Rattle.image.specs.KindNumbers.{kind_number}
+use Rattle.image.specs.Places.{due_number, row_number}
 use Rattle.image.specs.Write.{written, writtens}
+use Rattle.image.proofs.FirstPlace.{no_place, first_place}
+use Rattle.image.proofs.Known.{no_kind, a_kind}
 use Rattle.steps.specs.Writer.{payload_from, record_from, children_from}
-use Rattle.writer.specs.Put.{put_of, put_by, child_of, child_by}
-use Rattle.writer.specs.declared.output.Reached.{Reached}
-use Rattle.writer.specs.declared.records.Child.{Child}
-use Rattle.writer.proofs.Seen.{stood, was_opened, not_opened, child_unclosed, child_due, child_spare, child_not}
-use Rattle.writer.proofs.Runs.{is_held, read_next, read_fault, passed_put, passed_child, close_held, absent_held, open_held, record_payload, record_children, record_held, record_deep, record_not}
-use Rattle.writer.proofs.Bounds.{record_due, children_due}
+use Rattle.writer.specs.Put.{put_of, put_by, child_by}
+use Rattle.writer.proofs.Seen.{stood, was_opened, not_opened, child_unclosed, child_none, child_due, child_not, taken_fits}
+use Rattle.writer.proofs.Runs.{is_held, read_next, read_fault, passed_put, close_held, absent_held, open_held, record_payload, record_children, record_held, record_deep, record_not}
+use Rattle.writer.proofs.Bounds.{optional_place, record_due, children_due}
 use Rattle.writer.proofs.Loops.{goes_on, goes_closed, goes_wrong}
 use Rattle.writer.proofs.records.+putting.Goals as goal
 
-pub put_child-returns-then-is_over : goal.put_child-returns-then-is_over
-put_child-returns-then-is_over t c =
-    close_held _ _ _ _ _ _ (sym c.stands.ensures ∙ c.if-stands.true) (sym c.is_over.ensures ∙ c.if-is_over.true)
+-- where the payload goes: behind the length, the kind and the span
+behind_head : (l : List ℕ) (at pos q : ℕ) → at + 10 ≤ length l → q ≡ pos + 4 + length (part (at + 1) (at + 10) l) → q ≡ pos + 13
+behind_head l at pos q fits e =
+    let nine : length (part (at + 1) (at + 10) l) ≡ 9 = part_length l (at + 1) (at + 10) (omega arith) fits ∙ omega arith in
+    omega (arith, e)
 
-pub put_child-returns-then-stands : goal.put_child-returns-then-stands
-put_child-returns-then-stands t c =
-    rw c.at.ensures (sym (ap (child_by _ _)
-    (child_unclosed _ _ _ _ (sym c.stands.ensures ∙ c.if-stands.true) (sym c.is_over.ensures ∙ c.if-is_over.false))))
+pub put_child-returns-in_default-clause-put : goal.put_child-returns-in_default-clause-put
+put_child-returns-in_default-clause-put t c =
+    rw c.at.ensures (sym (ap (child_by _ _) (child_none _ _ _ _ c.requires.open (no_place _ c.in_default.ensures.value))))
 
-pub put_child-returns-then-is_optional : goal.put_child-returns-then-is_optional
-put_child-returns-then-is_optional t c =
-    absent_held _ _ _ _ _ _ _ (sym c.stands-2.ensures ∙ c.if-stands-2.true) (sym (rw c.place.ensures at c.is_optional.ensures) ∙ c.if-is_optional.true) c.put32.ensures
+pub put_child-returns-then-is_optional-clause-put : goal.put_child-returns-then-is_optional-clause-put
+put_child-returns-then-is_optional-clause-put t c =
+    rw c.put32.ensures.place (absent_held _ _ _ _ _ _ _ (sym c.stands.ensures ∙ c.if-stands.true)
+    (sym (rw (← (first_place _ _ c.in-Some.ensures.value).1) at c.is_optional.ensures) ∙ c.if-is_optional.true) c.put32.ensures.bytes)
 
-pub put_child-returns-then-stands-2 : goal.put_child-returns-then-stands-2
-put_child-returns-then-stands-2 t c =
-    rw c.at-then-stands-2.ensures (sym (ap (child_by _ _) (child_due _ _ _ _ (sym c.stands-2.ensures ∙ c.if-stands-2.true) (sym (rw c.place.ensures at c.is_optional.ensures) ∙ c.if-is_optional.false))))
+pub put_child-returns-then-stands-clause-put : goal.put_child-returns-then-stands-clause-put
+put_child-returns-then-stands-clause-put t c =
+    rw c.at-then-stands.ensures (sym (ap (child_by _ _) (child_due _ _ _ _ (sym c.stands.ensures ∙ c.if-stands.true)
+    (sym (rw (← (first_place _ _ c.in-Some.ensures.value).1) at c.is_optional.ensures) ∙ c.if-is_optional.false))))
 
-pub put_child-returns-then-not-stands : goal.put_child-returns-then-not-stands
-put_child-returns-then-not-stands t c =
-    rw c.at-then-not-stands.ensures (sym (ap (child_by _ _) (child_not _ _ _ _ (sym c.stands.ensures ∙ c.if-stands.false)
-    (sym c.stands-2.ensures ∙ c.if-stands-2.false) (sym c.stands-3.ensures ∙ c.if-not-stands.true))))
+pub put_child-returns-then-not-stands-clause-put : goal.put_child-returns-then-not-stands-clause-put
+put_child-returns-then-not-stands-clause-put t c =
+    rw c.at-then-not-stands.ensures (sym (ap (child_by _ _) (child_not _ _ _ _ c.requires.open
+    (sym c.stands.ensures ∙ c.if-stands.false) (sym c.stands-2.ensures ∙ c.if-not-stands.true))))
 
-pub put_child-returns-then-row-eq0 : goal.put_child-returns-then-row-eq0
-put_child-returns-then-row-eq0 t c =
-    rw c.at-then-row-eq0.ensures (sym (ap (child_by _ _) (child_spare _ _ _ _ (sym c.stands-3.ensures ∙ c.if-not-stands.false) c.if-row-eq0.true)))
+pub put_child-put32-requires : goal.put_child-put32-requires
+put_child-put32-requires t c =
+    let h = optional_place c.requires.due (sym (rw (← (first_place _ _ c.in-Some.ensures.value).1) at c.is_optional.ensures) ∙ c.if-is_optional.true) in
+    omega (arith, h, c.requires.due.below, (stood _ _ _ _ (sym c.stands.ensures ∙ c.if-stands.true)).0)
 
 pub put_child-put_record-requires : goal.put_child-put_record-requires
 put_child-put_record-requires t c =
-    (omega (arith, c.decreases), record_due c.requires c.if-row-eq0.false)
+    (omega (arith, c.decreases), record_due c.requires.due (first_place _ _ c.in-Some.ensures.value).0)
 
-pub put_child-returns-in_err-r : goal.put_child-returns-in_err-r
-put_child-returns-in_err-r t c =
-    passed_child _ _ _ c.from_residual.ensures.1
-    ∙ ap (λ (r : Result Reached Refused). put_of r c.put_record.new.out) (sym c.in_err-r.was) ∙ (rw (c.bare.ensures, c.place-2.ensures) at c.put_record.ensures)
-    ∙ sym (open_held _ _ _ _ _ _ (sym c.stands-3.ensures ∙ c.if-not-stands.false) c.if-row-eq0.false)
+pub put_child-returns-in_err-end-clause-put : goal.put_child-returns-in_err-end-clause-put
+put_child-returns-in_err-end-clause-put t c =
+    passed_put _ _ _ c.from_residual.ensures.1
+    ∙ ap (λ (r : Result ℕ Refused). put_of r c.put_record.new.out) (sym c.in_err-end.was) ∙ (rw (c.due.ensures, ← (first_place _ _ c.in-Some.ensures.value).1) at c.put_record.ensures.put)
+    ∙ sym (open_held _ _ _ _ _ _ (sym c.stands-2.ensures ∙ c.if-not-stands.false) (first_place _ _ c.in-Some.ensures.value).0)
 
-pub put_child-returns : goal.put_child-returns
-put_child-returns t c =
-    ap (λ (r : Result Reached Refused). put_of r c.put_record.new.out) (sym c.in_ok-r.was) ∙ (rw (c.bare.ensures, c.place-2.ensures) at c.put_record.ensures)
-    ∙ sym (open_held _ _ _ _ _ _ (sym c.stands-3.ensures ∙ c.if-not-stands.false) c.if-row-eq0.false)
+pub put_child-returns-clause-put : goal.put_child-returns-clause-put
+put_child-returns-clause-put t c =
+    ap (λ (r : Result ℕ Refused). put_of r c.put_record.new.out) (sym c.in_ok-end.was) ∙ (rw (c.due.ensures, ← (first_place _ _ c.in-Some.ensures.value).1) at c.put_record.ensures.put)
+    ∙ sym (open_held _ _ _ _ _ _ (sym c.stands-2.ensures ∙ c.if-not-stands.false) (first_place _ _ c.in-Some.ensures.value).0)
 
-pub put_children-loop-end-init : goal.put_children-loop-end-init
-put_children-loop-end-init t c =
-    record { turns = length c.args.steps.now; enough = omega arith; due = c.requires; room = refl; same = refl }
+pub put_children-loop-out-init : goal.put_children-loop-out-init
+put_children-loop-out-init t c =
+    record { going = record { turns = length c.args.steps.now; enough = omega arith; due = c.requires; same = refl }; same = refl }
+
+pub put_children-stands-requires : goal.put_children-stands-requires
+put_children-stands-requires t c = (c.loop-out.invariant.going.due.inside, omega arith)
 
 pub put_children-put_child-requires : goal.put_children-put_child-requires
-put_children-put_child-requires t c = (omega (arith, c.decreases), c.loop-end.invariant.due)
+put_children-put_child-requires t c =
+    (omega (arith, c.decreases), (c.loop-out.invariant.going.due, sym c.stands.ensures ∙ c.loop-out-test.true))
 
-pub put_children-returns-in_err-end : goal.put_children-returns-in_err-end
-put_children-returns-in_err-end t c =
+pub put_children-returns-in_err-at-clause-put : goal.put_children-returns-in_err-at-clause-put
+put_children-returns-in_err-at-clause-put t c =
     passed_put _ _ _ c.from_residual.ensures.1
-    ∙ goes_wrong c.args.steps.now c.args.left _ _ _ _ _ _ c.loop-end.invariant _ _
-    (ap (λ (r : Result Child Refused). child_of r c.put_child.new.out) (sym c.in_err-end.was) ∙ c.put_child.ensures)
+    ∙ goes_wrong c.args.steps.now c.args.left _ _ _ _ _ c.loop-out.invariant.going _ _
+    (ap (λ (r : Result ℕ Refused). put_of r c.put_child.new.out) (sym c.in_err-at.was) ∙ c.put_child.ensures.put)
 
-pub put_children-returns-in-Closed : goal.put_children-returns-in-Closed
-put_children-returns-in-Closed t c =
-    goes_closed c.args.steps.now c.args.left _ _ _ _ _ _ c.loop-end.invariant c.in-Closed.end
-    c.put_child.new.out
-    (ap (λ (r : Result Child Refused). child_of r c.put_child.new.out) (sym (c.in_ok-end.was ∙ ap Ok c.in-Closed.is)) ∙ c.put_child.ensures)
-
-pub put_children-loop-end-smaller : goal.put_children-loop-end-smaller
-put_children-loop-end-smaller t c =
+pub put_children-loop-out-smaller : goal.put_children-loop-out-smaller
+put_children-loop-out-smaller t c =
     let w =
-    goes_on c.args.steps.now c.args.left _ _ _ _ _ _ c.loop-end.invariant c.in-Laid.r.at
-    c.in-Laid.r.pos c.put_child.new.out c.put_child.auto.out
-    (ap (λ (r : Result Child Refused). child_of r c.put_child.new.out) (sym (c.in_ok-end.was ∙ ap Ok c.in-Laid.is))
-    ∙ c.put_child.ensures)
+    goes_on c.args.steps.now c.args.left _ _ _ _ _ c.loop-out.invariant.going c.in_ok-at.at
+    c.put_child.new.out.pos c.put_child.new.out.bytes.now
+    (ap (λ (r : Result ℕ Refused). put_of r c.put_child.new.out) (sym c.in_ok-at.was) ∙ c.put_child.ensures.put)
     in
     omega (arith, w.0, w.1.0)
 
-pub put_children-loop-end-preserved : goal.put_children-loop-end-preserved
-put_children-loop-end-preserved t c =
-    rw c.after_row-row.ensures (goes_on c.args.steps.now c.args.left _ _ _ _ _ _ c.loop-end.invariant c.in-Laid.r.at
-    c.in-Laid.r.pos c.put_child.new.out c.put_child.auto.out
-    (ap (λ (r : Result Child Refused). child_of r c.put_child.new.out) (sym (c.in_ok-end.was ∙ ap Ok c.in-Laid.is))
-    ∙ c.put_child.ensures)).1.1
+pub put_children-loop-out-preserved : goal.put_children-loop-out-preserved
+put_children-loop-out-preserved t c =
+    let w =
+    goes_on c.args.steps.now c.args.left _ _ _ _ _ c.loop-out.invariant.going c.in_ok-at.at
+    c.put_child.new.out.pos c.put_child.new.out.bytes.now
+    (ap (λ (r : Result ℕ Refused). put_of r c.put_child.new.out) (sym c.in_ok-at.was) ∙ c.put_child.ensures.put)
+    in
+    record { going = rw c.after_row-row.ensures w.1.1; same = c.put_child.ensures.same ∙ c.loop-out.invariant.same }
 
-pub put_record-returns-then-left-eq0 : goal.put_record-returns-then-left-eq0
-put_record-returns-then-left-eq0 t c =
+pub put_children-returns-then-not-is_over-clause-put : goal.put_children-returns-then-not-is_over-clause-put
+put_children-returns-then-not-is_over-clause-put t c =
+    rw c.at.ensures (goes_wrong c.args.steps.now c.args.left _ _ _ _ _ c.loop-out.invariant.going _ _ (sym (ap (child_by _ _)
+    (child_unclosed _ _ _ _ (sym c.stands.ensures ∙ c.loop-out-test.false) (sym c.is_over.ensures ∙ c.if-not-is_over.true)))))
+
+pub put_children-returns-clause-put : goal.put_children-returns-clause-put
+put_children-returns-clause-put t c =
+    goes_closed c.args.steps.now c.args.left _ _ _ _ _ c.loop-out.invariant.going _ _
+    (close_held _ _ _ _ _ _ (sym c.stands.ensures ∙ c.loop-out-test.false) (sym c.is_over.ensures ∙ c.if-not-is_over.false))
+
+pub put_record-returns-then-left-eq0-clause-put : goal.put_record-returns-then-left-eq0-clause-put
+put_record-returns-then-left-eq0-clause-put t c =
     rw c.at.ensures (sym (ap (put_by _ _ _) (record_deep _ _ _ _ c.if-left-eq0.true)))
 
-pub put_record-returns-then-not-opens : goal.put_record-returns-then-not-opens
-put_record-returns-then-not-opens t c =
-    rw c.at-then-not-opens.ensures (sym (ap (put_by _ _ _) (record_not _ _ _ _ (not_opened _ _ _ (sym c.opens.ensures ∙ c.if-not-opens.true)))))
+pub put_record-returns-in_default-clause-put : goal.put_record-returns-in_default-clause-put
+put_record-returns-in_default-clause-put t c =
+    rw c.at-in_default.ensures (sym (ap (put_by _ _ _) (record_not _ _ _ _ (not_opened _ _ _
+    (no_kind c.args.due _ _ (taken_fits _ _ _) c.in_default.ensures)))))
 
 pub put_record-put_payload-requires : goal.put_record-put_payload-requires
 put_record-put_payload-requires t c =
-    record {
-      inside = (stood _ _ _ _ (was_opened _ _ _ (sym c.opens.ensures ∙ c.if-not-opens.false)).0).0;
-      below = omega (arith, c.requires.below);
-    }
+    let fits = (stood _ _ _ _ (was_opened _ _ _ (a_kind _ _ _ c.in-Some.ensures).0).0).0 in
+    record { inside = fits; below = omega (arith, behind_head _ _ _ _ fits c.copy.ensures.place, c.requires.below) }
 
 pub put_record-put_children-requires : goal.put_record-put_children-requires
 put_record-put_children-requires t c =
-    let k =
-    read_next (λ (x : List ℕ). x) (c.args.pos + 13) c.copy.new.out
-    (payload_from c.args.steps.now c.args.p c.from-kind.result (c.args.at + 10)) _ _ _ c.put_payload.ensures c.in_ok-payload.was
-    in (
+    let fits = (stood _ _ _ _ (was_opened _ _ _ (a_kind _ _ _ c.in-Some.ensures).0).0).0 in
+    let k = read_next _ _ _ _ _ _ _ (rw (behind_head _ _ _ _ fits c.copy.ensures.place) at c.put_payload.ensures.put) c.in_ok-first.was in (
       omega (arith, c.decreases, c.if-left-eq0.false),
-      rw k.place (children_due c.args.steps.now c.args.p c.from-kind.result c.args.at c.args.pos
-          c.requires (stood _ _ _ _ (was_opened _ _ _ (sym c.opens.ensures ∙ c.if-not-opens.false)).0).0
-          k.what _ c.row_under.result k.reads c.row_under.ensures),
+      rw k.place (children_due c.args.steps.now (due_number c.args.due) (kind_number c.in-Some.kind) c.args.at c.args.out.now.pos
+          c.requires fits k.what _ (row_number c.row_under.result.now) k.reads c.row_under.ensures),
     )
 
-pub put_record-overflow_sub-children : goal.put_record-overflow_sub-children
-put_record-overflow_sub-children t c =
+pub put_record-overflow_sub-out : goal.put_record-overflow_sub-out
+put_record-overflow_sub-out t c =
     let k =
-    read_next (λ (x : List ℕ). x) (c.args.pos + 13) c.copy.new.out
-    (payload_from c.args.steps.now c.args.p c.from-kind.result (c.args.at + 10)) _ _ _ c.put_payload.ensures c.in_ok-payload.was
+    read_next (λ (x : List ℕ). x) c.copy.new.self.pos c.copy.new.self.bytes.now
+    (payload_from c.args.steps.now (due_number c.args.due) (kind_number c.in-Some.kind) (c.args.at + 10)) _ _ _ c.put_payload.ensures.put c.in_ok-first.was
     in
     let m =
-    read_next writtens _ c.put_payload.new.out
-    (children_from (record_from c.args.steps.now (c.args.left - 1)) c.args.steps.now (suc (length c.args.steps.now)) c.row_under.result c.in_ok-payload.payload.at)
-    _ _ _ c.put_children.ensures c.in_ok-children.was
+    read_next writtens c.put_payload.new.out.pos c.put_payload.new.out.bytes.now
+    (children_from (record_from c.args.steps.now (c.args.left - 1)) c.args.steps.now (suc (length c.args.steps.now)) (row_number c.row_under.result.now) c.in_ok-first.first)
+    _ _ _ c.put_children.ensures.put c.in_ok-end.was
     in
-    omega (arith, k.place, m.place)
+    omega (arith, k.place, m.place, c.copy.ensures.place)
 
-pub put_record-overflow_sub-children-2 : goal.put_record-overflow_sub-children-2
-put_record-overflow_sub-children-2 t c =
-    let k =
-    read_next (λ (x : List ℕ). x) (c.args.pos + 13) c.copy.new.out
-    (payload_from c.args.steps.now c.args.p c.from-kind.result (c.args.at + 10)) _ _ _ c.put_payload.ensures c.in_ok-payload.was
-    in
-    let m =
-    read_next writtens _ c.put_payload.new.out
-    (children_from (record_from c.args.steps.now (c.args.left - 1)) c.args.steps.now (suc (length c.args.steps.now)) c.row_under.result c.in_ok-payload.payload.at)
-    _ _ _ c.put_children.ensures c.in_ok-children.was
-    in
-    omega (arith, k.place, m.place)
-
-pub put_record-returns-in_err-payload : goal.put_record-returns-in_err-payload
-put_record-returns-in_err-payload t c =
+pub put_record-returns-in_err-first-clause-put : goal.put_record-returns-in_err-first-clause-put
+put_record-returns-in_err-first-clause-put t c =
     passed_put _ _ _ c.from_residual.ensures.1
-    ∙ sym (ap (put_by written _ _) (record_payload c.args.steps.now c.args.left c.args.p c.args.at c.from-kind.result
-    c.if-left-eq0.false c.from-kind.ensures (was_opened _ _ _ (sym c.opens.ensures ∙ c.if-not-opens.false)).1 _ _
-    (read_fault (λ (x : List ℕ). x) (c.args.pos + 13) c.copy.new.out
-    (payload_from c.args.steps.now c.args.p c.from-kind.result (c.args.at + 10)) _ _ _
-    c.put_payload.ensures c.in_err-payload.was)))
+    ∙ sym (ap (put_by written _ _) (record_payload c.args.steps.now c.args.left (due_number c.args.due) c.args.at (kind_number c.in-Some.kind)
+    c.if-left-eq0.false (sym (a_kind _ _ _ c.in-Some.ensures).1) (was_opened _ _ _ (a_kind _ _ _ c.in-Some.ensures).0).1 _ _
+    (read_fault _ _ _ _ _ _ _ c.put_payload.ensures.put c.in_err-first.was)))
 
-pub put_record-returns-in_err-children : goal.put_record-returns-in_err-children
-put_record-returns-in_err-children t c =
-    let k =
-    read_next (λ (x : List ℕ). x) (c.args.pos + 13) c.copy.new.out
-    (payload_from c.args.steps.now c.args.p c.from-kind.result (c.args.at + 10)) _ _ _ c.put_payload.ensures c.in_ok-payload.was
-    in
-    passed_put _ _ _ c.from_residual-in_err-children.ensures.1
-    ∙ sym (ap (put_by written _ _) (record_children c.args.steps.now c.args.left c.args.p c.args.at
-    c.from-kind.result c.if-left-eq0.false c.from-kind.ensures
-    (was_opened _ _ _ (sym c.opens.ensures ∙ c.if-not-opens.false)).1 k.what _
-    c.row_under.result _ _ k.reads c.row_under.ensures (read_fault writtens _
-    c.put_payload.new.out (children_from (record_from c.args.steps.now (c.args.left - 1))
-    c.args.steps.now (suc (length c.args.steps.now)) c.row_under.result c.in_ok-payload.payload.at) _ _ _
-    c.put_children.ensures c.in_err-children.was)))
+pub put_record-returns-in_err-end-clause-put : goal.put_record-returns-in_err-end-clause-put
+put_record-returns-in_err-end-clause-put t c =
+    let fits = (stood _ _ _ _ (was_opened _ _ _ (a_kind _ _ _ c.in-Some.ensures).0).0).0 in
+    let k = read_next _ _ _ _ _ _ _ c.put_payload.ensures.put c.in_ok-first.was in
+    passed_put _ _ _ c.from_residual-in_err-end.ensures.1
+    ∙ sym (ap (put_by written _ _) (record_children c.args.steps.now c.args.left (due_number c.args.due) c.args.at
+    (kind_number c.in-Some.kind) c.if-left-eq0.false (sym (a_kind _ _ _ c.in-Some.ensures).1)
+    (was_opened _ _ _ (a_kind _ _ _ c.in-Some.ensures).0).1 k.what _
+    (row_number c.row_under.result.now) _ _ k.reads c.row_under.ensures (read_fault _ _ _ _ _ _ _
+    c.put_children.ensures.put c.in_err-end.was)))
 
-pub put_record-returns : goal.put_record-returns
-put_record-returns t c =
-    let k =
-    read_next (λ (x : List ℕ). x) (c.args.pos + 13) c.copy.new.out
-    (payload_from c.args.steps.now c.args.p c.from-kind.result (c.args.at + 10)) _ _ _ c.put_payload.ensures c.in_ok-payload.was
-    in
-    let m =
-    read_next writtens _ c.put_payload.new.out
-    (children_from (record_from c.args.steps.now (c.args.left - 1)) c.args.steps.now (suc (length c.args.steps.now)) c.row_under.result c.in_ok-payload.payload.at)
-    _ _ _ c.put_children.ensures c.in_ok-children.was
-    in
-    is_held written _ _ _ _ _ _ (record_held c.args.steps.now c.args.left c.args.p c.args.at c.from-kind.result
-    c.if-left-eq0.false c.from-kind.ensures (was_opened _ _ _ (sym c.opens.ensures ∙ c.if-not-opens.false)).1
-    c.args.pos c.args.out.now (λ i. omega (arith, c.shared_slice_known-2-1.given i))
-    (stood _ _ _ _ (was_opened _ _ _ (sym c.opens.ensures ∙ c.if-not-opens.false)).0).0 _ _ _ _ _ _ _ _ _
-    c.copy.ensures k c.row_under.ensures m c.put32.ensures)
+pub put_record-returns-clause-put : goal.put_record-returns-clause-put
+put_record-returns-clause-put t c =
+    let fits = (stood _ _ _ _ (was_opened _ _ _ (a_kind _ _ _ c.in-Some.ensures).0).0).0 in
+    let k = read_next _ _ _ _ _ _ _ (rw (behind_head _ _ _ _ fits c.copy.ensures.place) at c.put_payload.ensures.put) c.in_ok-first.was in
+    let m = read_next _ _ _ _ _ _ _ c.put_children.ensures.put c.in_ok-end.was in
+    rw c.set32.ensures.place (is_held written _ _ _ _ _ _ (record_held c.args.steps.now c.args.left (due_number c.args.due) c.args.at (kind_number c.in-Some.kind)
+    c.if-left-eq0.false (sym (a_kind _ _ _ c.in-Some.ensures).1) (was_opened _ _ _ (a_kind _ _ _ c.in-Some.ensures).0).1
+    c.args.out.now.pos c.args.out.now.bytes.now (λ i. omega (arith, c.type_inv.steps i))
+    fits _ _ _ _ _ _ _ _ _
+    c.copy.ensures.bytes k c.row_under.ensures m c.set32.ensures.bytes))
