@@ -4,15 +4,29 @@ use std::{fs, path::Path};
 
 use rrufthim::kind;
 
-/// Names and numbers of the constants in crates/image/src/kinds.rt.
+/// A variant's name as a constant's: `NameAndType` as `NAME_AND_TYPE`.
+fn constant(variant: &str) -> String {
+    let mut name = String::new();
+    for letter in variant.chars() {
+        if letter.is_uppercase() && !name.is_empty() {
+            name.push('_');
+        }
+        name.push(letter.to_ascii_uppercase());
+    }
+    name
+}
+
+/// Names and numbers of the variants of `Kind` in crates/image/src/kinds.rt.
 fn proved() -> Vec<(String, u8)> {
     let here = Path::new(env!("CARGO_MANIFEST_DIR"));
     let file = here.join("../crates/image/src/kinds.rt");
     let text = fs::read_to_string(file).expect("a file");
-    let lines = text.lines().filter_map(|line| {
-        let line = line.strip_prefix("pub const ")?.strip_suffix(';')?;
-        let (name, number) = line.split_once(": usize = ")?;
-        Some((name.to_owned(), number.parse().expect("a kind")))
+    let (_, from) = text.split_once("pub enum Kind {").expect("the kinds");
+    let (kinds, _) = from.split_once("\n}").expect("their end");
+    let lines = kinds.lines().filter_map(|line| {
+        let (variant, number) =
+            line.trim().strip_suffix(',')?.split_once(" = ")?;
+        Some((constant(variant), number.parse().expect("a kind")))
     });
     lines.collect()
 }

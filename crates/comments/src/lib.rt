@@ -106,7 +106,7 @@ fn push_comment(state: &mut State<'_>, parsed: &Parsed<'_>, comment: Waiting)
 }
 
 // A line for one newline, an empty line for more. Where the last of them is doesn't matter here.
-// kept: a match on a count, as in the Rust.
+// kept: a choice by a count that was just made, as in the Rust: no step stands behind it that a caller could lend.
 fn break_line(state: &mut State<'_>, n: Newlines)
     requires { Room (break_line n) state.old.cursor }
     ensures { Does (break_line n) state.old state.new }
@@ -168,6 +168,7 @@ fn pop_comment(state: &mut State<'_>, parsed: &Parsed<'_>, leading: bool, commen
 }
 
 // The loop of `pop_whitespace`: the comments that start before the position.
+// kept: how many are popped is in the state, and goes on with each turn, so that no range has the turns.
 fn pop_comments(state: &mut State<'_>, parsed: &Parsed<'_>, position: u32, leading: bool)
     requires { Room (pop_comments (given_by parsed.now) (length (comments_of parsed.now.image.now)) position leading) state.old.cursor }
     ensures { Does (pop_comments (given_by parsed.now) (length (comments_of parsed.now.image.now)) position leading) state.old state.new }

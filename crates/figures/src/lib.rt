@@ -62,7 +62,7 @@ fn count_figures(t: Tallies, f: Figures) -> Result<Counted, Refused>
 
 // Counts a file that is accepted. The marks past those that its rows need stay cleared, so that all are looked at.
 fn count_accepted(file: Accepted<'_>, t: Tallies) -> Result<Counted, Refused>
-    ensures { counted_answer result ≡ count_answer file.entry.source.now file.entry.image.now t }
+    ensures { counted_answer result ≡ count_answer file.entry.parsed.source.now file.entry.parsed.image.now t }
 {
     let mut store = rows();
     let mut used = marks();

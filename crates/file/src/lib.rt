@@ -100,7 +100,7 @@ pub fn run_file(
     out: &mut [u8],
     choice: FileChoice,
 ) -> Result<Run, Refused>
-    ensures { RunsFile file.entry.source.now file.entry.image.now (to_choice choice) store.old marks.old out.old result store.new marks.new out.new }
+    ensures { RunsFile file.entry.parsed.source.now file.entry.parsed.image.now (to_choice choice) store.old marks.old out.old result store.new marks.new out.new }
 {
     if NEW_MODE < choice.mode {
         return Err(Reason::State.at(0));
@@ -119,7 +119,15 @@ pub fn run_file(
         width: choice.width,
     };
     let fresh = render_fresh();
-    let drawn = render_checked(file.source, file.image, store, marks, out, fresh, to)?;
+    let drawn = render_checked(
+        file.parsed.source,
+        file.parsed.image,
+        store,
+        marks,
+        out,
+        fresh,
+        to,
+    )?;
     Ok(Run {
         text: Text {
             bytes: drawn.written.bytes,
@@ -133,7 +141,7 @@ pub fn run_file(
 
 // A file that is accepted, with rows and marks of its own: the rows of a file that 9 or 10 refuses can't be taken back out of a lent store.
 fn format_accepted(file: Accepted<'_>, out: &mut [u8], choice: FileChoice) -> Result<Text, Refused>
-    ensures { Formats file.entry.source.now file.entry.image.now (to_choice choice) out.old result out.new }
+    ensures { Formats file.entry.parsed.source.now file.entry.parsed.image.now (to_choice choice) out.old result out.new }
 {
     let mut store = rows();
     let mut used = marks();

@@ -78,14 +78,6 @@ pub enum Kind {
 }
 
 impl Kind {
-    // Its byte in an image.
-    // kept: a cast: the enum has the numbers already, and a `match` would say them again.
-    pub fn number(self) -> u8
-        ensures { result ≡ kind_number self }
-    {
-        self as u8
-    }
-
     // Whether a record of this kind is a text.
     pub fn is_text(self) -> bool
         ensures { result ≡ eqb (kind_number self) TEXT }

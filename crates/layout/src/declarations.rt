@@ -179,6 +179,7 @@ fn decl_import(state: &mut State<'_>, parsed: &Parsed<'_>, at: usize, first: boo
 }
 
 // The declaration at `at`, which is the file's first or not.
+// kept: a choice by what stands in the tree, as in the Rust.
 pub(crate) fn declaration(state: &mut State<'_>, parsed: &Parsed<'_>, at: usize, first: bool)
     requires { Has (OfDeclaration any_declaration) (declaration_rule any_declaration first) parsed.now at state.old.cursor }
     ensures { LaidAs (OfDeclaration any_declaration) (declaration_rule any_declaration first) parsed.now at state.old state.new }

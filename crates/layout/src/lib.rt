@@ -1,7 +1,8 @@
 // The layout functions: `State` of fmt.rs from `separated` on. Here are those of expressions, blocks and statements. They call each other,
 // and the record's length falls at each call.
-// kept: each function has what it changes, what it reads, and where: the Rust's `self` and its reference to a node. As one value, the last
-// two would be made anew at each call, which only moves the offset.
+// kept, here and in the other files of this crate: each function has what it changes, what it reads, and where: the Rust's `self`, which has
+// the first two, and its reference to a node. What is read stands beside what is changed, since in one struct each call would have to say
+// again that what it reads is what it was; and with the offset it would be made anew at each call, which only moves the offset.
 #![tactic(auto)]
 
 mod blocks;
@@ -71,6 +72,7 @@ fn expr_with_precedence(state: &mut State<'_>, parsed: &Parsed<'_>, at: usize, o
 }
 
 // `expr_with_precedence`, its `match`: an expression by its form.
+// kept: a choice by what stands in the tree, as in the Rust, and not among steps that a caller has.
 #[cycle(expr)]
 fn form(state: &mut State<'_>, parsed: &Parsed<'_>, at: usize, outer: Precedence)
     requires { Has ExprAt (form_with (rank outer)) parsed.now at state.old.cursor }
@@ -509,6 +511,7 @@ fn last(state: &mut State<'_>, parsed: &Parsed<'_>, at: usize, first: bool)
     pop_trailing_comment(state, parsed);
 }
 
+// kept: a choice by what stands in the tree, as in the Rust.
 #[cycle(expr)]
 fn stmt(state: &mut State<'_>, parsed: &Parsed<'_>, at: usize)
     requires { Has StmtAt stmt_rule parsed.now at state.old.cursor }

@@ -40,6 +40,7 @@ pub(crate) fn between(state: &mut State<'_>, leaf: Leaf, first: bool, gap: Gap)
 }
 
 // The line or the space inside the brackets of `separated`.
+// kept: a choice between two leaves by the list's style, as in the Rust.
 pub(crate) fn edge(state: &mut State<'_>, style: WrapStyle)
     requires { Room (edge style) state.old.cursor }
     ensures { Does (edge style) state.old state.new }

@@ -17,6 +17,7 @@ use acts::words::Word;
 use comments::parsed::Parsed;
 use image::kinds;
 
+// kept: a choice by what stands in the tree, as in the Rust.
 #[cycle(type_expr)]
 pub(crate) fn type_expr(state: &mut State<'_>, parsed: &Parsed<'_>, at: usize)
     requires { Has TypeAt type_expr parsed.now at state.old.cursor }

@@ -21,6 +21,7 @@ use Rattle.acts.specs.declared.Cursor.{Cursor}
 use Rattle.acts.specs.declared.State.{State}
 use Rattle.tree.specs.CommentList.{comments_of}
 use Rattle.comments.specs.Listed.{given, Listed}
+use Rattle.comments.specs.Parsed.{given_by}
 use Rattle.comments.specs.declared.parsed.Parsed.{Parsed}
 use Rattle.comments.proofs.Accepted.{accepted_listed}
 use Rattle.comments.proofs.Fronts.{count_of}
@@ -65,18 +66,6 @@ module _ {s b : List ℕ} {d : Document} (a : Accepts s b d) where
 
   pub has_shebang : {c : Cursor} → Room (shebang_rule (given s b) (tree s b).shebang) c → HasIn MaybeIdentAt shebang_rule s b (at + 13) c
   has_shebang room = record { accepted = ready; tree = (tree s b).shebang; held = stands.tree.shebang; room = room }
-
-  module _ (p : Parsed) (i : p.source.now ≡ s) (j : p.image.now ≡ b) {x y : State} where
-    pub shebang_laid : LaidAs MaybeIdentAt shebang_rule p (at + 13) x y → Room (shebang_rule (given s b) (tree s b).shebang) x.cursor
-        → Does (shebang_rule (given s b) (tree s b).shebang) x y
-    unfolding has_shebang
-    shebang_laid l room = record { laid = go _ _ i j l.of; same = l.same }
-      where
-        go : (s' b' : List ℕ) → s' ≡ s → b' ≡ b
-            → ((h : HasIn MaybeIdentAt shebang_rule s' b' (at + 13) x.cursor)
-            → Laid (shebang_rule (given s' b') h.tree) x.store.now x.cursor y.store.now y.cursor)
-            → Laid (shebang_rule (given s b) (tree s b).shebang) x.store.now x.cursor y.store.now y.cursor
-        go s' b' e f k = (rw (e, f) at k) (has_shebang room)
 
   -- ---- the declarations
   abbrev ds : List Declaration
@@ -176,18 +165,6 @@ module _ {s b : List ℕ} {d : Document} (a : Accepts s b d) where
       room = room;
     }
 
-    pub part_laid : (first : Bool) (p : Parsed) (i : p.source.now ≡ s) (j : p.image.now ≡ b) {x y : State}
-        → LaidAll DeclarationsAt (declarations_from first) p (start_of s b at from) (start_of s b at to) x y
-        → Room (declarations_rule (given s b) ys first) x.cursor → Does (declarations_rule (given s b) ys first) x y
-    unfolding has_part
-    part_laid first p i j {x} {y} l room = record { laid = go _ _ i j l.of; same = l.same }
-      where
-        go : (s' b' : List ℕ) → s' ≡ s → b' ≡ b
-            → ((h : HasAllIn DeclarationsAt (declarations_from first) s' b' (start_of s b at from) (start_of s b at to) x.cursor)
-            → Laid (declarations_rule (given s' b') h.tree first) x.store.now x.cursor y.store.now y.cursor)
-            → Laid (declarations_rule (given s b) ys first) x.store.now x.cursor y.store.now y.cursor
-        go s' b' e f k = (rw (e, f) at k) (has_part first room)
-
     parted : take from ds ++ (ys ++ drop (to - from) (drop from ds)) ≡ ds
     parted =
         ap (λ (l : List Declaration). take from ds ++ l) (take-append-drop (to - from) (drop from ds)) ∙ take-append-drop from ds
@@ -218,3 +195,17 @@ module _ {s b : List ℕ} {d : Document} (a : Accepts s b d) where
         (st c)
         (omega (arith, comments_count, k.placed))
         ).rows
+
+-- what is laid of a file that is read
+module _ {p : Parsed} {d : Document} (a : Accepts p.source.now p.image.now d) {x y : State} where
+  pub shebang_laid : LaidAs MaybeIdentAt shebang_rule p (d.tree + 13) x y
+      → Room (shebang_rule (given_by p) (tree p.source.now p.image.now).shebang) x.cursor
+      → Does (shebang_rule (given_by p) (tree p.source.now p.image.now).shebang) x y
+  unfolding has_shebang
+  shebang_laid l room = record { laid = l.of (has_shebang a room); same = l.same }
+
+  pub part_laid : (from to : ℕ) (h : from ≤ to) (first : Bool)
+      → LaidAll DeclarationsAt (declarations_from first) p (start_of p.source.now p.image.now d.tree from) (start_of p.source.now p.image.now d.tree to) x y
+      → Room (declarations_rule (given_by p) (ys a from to h) first) x.cursor → Does (declarations_rule (given_by p) (ys a from to h) first) x y
+  unfolding has_part
+  part_laid from to h first l room = record { laid = l.of (has_part a from to h first room); same = l.same }

@@ -8,10 +8,9 @@ use refusals::Refused;
 /// A source and an image that the reader accepts: it holds no others.
 #[derive(Clone, Copy)]
 pub struct Accepted<'a> {
-    pub source: &'a [u8],
-    pub image: &'a [u8],
+    pub parsed: Parsed<'a>,
     pub doc: Document,
-    pub ghost accepts: { Accepts source.now image.now doc },
+    pub ghost accepts: { Accepts parsed.source.now parsed.image.now doc },
 }
 
 impl<'a> Accepted<'a> {
@@ -22,20 +21,10 @@ impl<'a> Accepted<'a> {
     /// Accepts a source and an image, or refuses them.
     pub fn check(source: &'a [u8], image: &'a [u8]) -> Result<Accepted<'a>, Refused>
         ensures answer { answer_of (λ a. a.doc) result ≡ outcome (read_all source.now image.now) }
-        ensures same { IfOk result (λ a. (a.source.now ≡ source.now) × (a.image.now ≡ image.now)) }
+        ensures same { IfOk result (λ a. (a.parsed.source.now ≡ source.now) × (a.parsed.image.now ≡ image.now)) }
     {
         let doc = image::check(source, image)?;
-        Ok(Accepted { source, image, doc })
-    }
-
-    // What layout reads of it.
-    pub(crate) fn parsed(&self) -> Parsed<'a>
-        ensures { (result.source.now ≡ self.now.source.now) × (result.image.now ≡ self.now.image.now) }
-    {
-        // kept: what is accepted has a document besides, so that neither is the other with fields left out.
-        Parsed {
-            source: self.source,
-            image: self.image,
-        }
+        let parsed = Parsed { source, image };
+        Ok(Accepted { parsed, doc })
     }
 }

@@ -25,8 +25,8 @@ pub(crate) fn cursor_of(state: LayoutState) -> Cursor
 impl Call<'_> {
     // Lays what is due, in a store that has room for it.
     pub(crate) fn laid(&self, store: &mut [u32]) -> Laid
-        requires { StateFits self.now.file.source.now self.now.file.image.now self.now.state self.now.args store.old × Roomy self.now.file.source.now self.now.file.image.now self.now.state self.now.args store.old }
-        ensures { LayoutCalled self.now.file.source.now self.now.file.image.now self.now.state self.now.args store.old (Ok result) store.new }
+        requires { StateFits self.now.file.parsed.source.now self.now.file.parsed.image.now self.now.state self.now.args store.old × Roomy self.now.file.parsed.source.now self.now.file.parsed.image.now self.now.state self.now.args store.old }
+        ensures { LayoutCalled self.now.file.parsed.source.now self.now.file.parsed.image.now self.now.state self.now.args store.old (Ok result) store.new }
     {
         let c = cursor_of(self.state);
         let e = self.lay_from(store, c);

@@ -16,28 +16,27 @@ use layout::numbers::{past, second};
 
 // Whether there is a declaration: the first of them would start before they end.
 fn has_declarations(file: Accepted<'_>) -> bool
-    ensures { result ≡ ltb 0 (length (declared file.entry.source.now file.entry.image.now)) }
+    ensures { result ≡ ltb 0 (length (declared file.entry.parsed.source.now file.entry.parsed.image.now)) }
 {
-    second(file.image, file.doc.tree) < past(file.image, file.doc.tree)
+    second(file.parsed.image, file.doc.tree) < past(file.parsed.image, file.doc.tree)
 }
 
 // Places the comments that wait, "as `pop_whitespace` does when asked for the source length".
 fn place_waiting(layout: &mut State<'_>, file: Accepted<'_>)
-    requires { Room (place_waiting (given file.source.now file.image.now) (tree file.source.now file.image.now)) layout.old.cursor }
-    ensures { Does (place_waiting (given file.entry.source.now file.entry.image.now) (tree file.entry.source.now file.entry.image.now)) layout.old layout.new }
+    requires { Room (place_waiting (given file.parsed.source.now file.parsed.image.now) (tree file.parsed.source.now file.parsed.image.now)) layout.old.cursor }
+    ensures { Does (place_waiting (given file.entry.parsed.source.now file.entry.parsed.image.now) (tree file.entry.parsed.source.now file.entry.parsed.image.now)) layout.old layout.new }
 {
     let kept = Kept {
         leading: has_declarations(file),
         ..Kept::NONE
     };
-    let parsed = file.parsed();
-    pop_whitespace(layout, &parsed, file.source.len() as u32, &kept);
+    pop_whitespace(layout, &file.parsed, file.parsed.source.len() as u32, &kept);
 }
 
 // The final `Line`, in the new mode after the comments that wait.
 pub(crate) fn close_document(layout: &mut State<'_>, file: Accepted<'_>, mode: usize)
-    requires { Room (closing (given file.source.now file.image.now) (tree file.source.now file.image.now) (keeps_waiting mode)) layout.old.cursor }
-    ensures { Does (closing (given file.entry.source.now file.entry.image.now) (tree file.entry.source.now file.entry.image.now) (keeps_waiting mode)) layout.old layout.new }
+    requires { Room (closing (given file.parsed.source.now file.parsed.image.now) (tree file.parsed.source.now file.parsed.image.now) (keeps_waiting mode)) layout.old.cursor }
+    ensures { Does (closing (given file.entry.parsed.source.now file.entry.parsed.image.now) (tree file.entry.parsed.source.now file.entry.parsed.image.now) (keeps_waiting mode)) layout.old layout.new }
 {
     if mode == NEW_MODE {
         place_waiting(layout, file);

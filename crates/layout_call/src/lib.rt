@@ -55,12 +55,12 @@ pub fn layout_accepted(
     state: LayoutState,
     args: LayoutArgs,
 ) -> Result<Laid, Refused>
-    ensures { LayoutCalled file.entry.source.now file.entry.image.now state args store.old result store.new }
+    ensures { LayoutCalled file.entry.parsed.source.now file.entry.parsed.image.now state args store.old result store.new }
 {
     let call = Call { file, state, args };
     let rows = store.len() / PLACES;
     let declarations = count_declarations(file);
-    let size = file.source.len();
+    let size = file.parsed.source.len();
     if !state_fits(state, args, declarations, file.doc.comments, size, rows) {
         return Err(Reason::State.at(0));
     }

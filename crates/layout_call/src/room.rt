@@ -16,18 +16,18 @@ const ROW_TAKES: usize = 13;
 impl Call<'_> {
     // The row behind what a call lays, counted over a store that has no room for it.
     fn rows_needed(&self, c: Cursor) -> usize
-        requires { (self.now.state.declaration ≤ self.now.args.stop) × ((self.now.args.stop ≤ length (declared self.now.file.source.now self.now.file.image.now)) × SmallCursor c self.now.file.doc) }
-        ensures { result ≡ c.row + sizes (call_act self.now.file.source.now self.now.file.image.now self.now.state self.now.args (st c)).nodes }
+        requires { (self.now.state.declaration ≤ self.now.args.stop) × ((self.now.args.stop ≤ length (declared self.now.file.parsed.source.now self.now.file.parsed.image.now)) × SmallCursor c self.now.file.doc) }
+        ensures { result ≡ c.row + sizes (call_act self.now.file.parsed.source.now self.now.file.parsed.image.now self.now.state self.now.args (st c)).nodes }
     {
         self.lay_from(&mut [], c).row as usize
     }
 
     // The same if it is past `rows`, and else a row that is not. Where the store has all the rows that the image's bytes give, nothing is counted.
     pub(crate) fn rows_wanted(&self, c: Cursor, rows: usize) -> usize
-        requires { (self.now.state.declaration ≤ self.now.args.stop) × ((self.now.args.stop ≤ length (declared self.now.file.source.now self.now.file.image.now)) × SmallCursor c self.now.file.doc) }
-        ensures { Wanted rows (c.row + sizes (call_act self.now.file.source.now self.now.file.image.now self.now.state self.now.args (st c)).nodes) result }
+        requires { (self.now.state.declaration ≤ self.now.args.stop) × ((self.now.args.stop ≤ length (declared self.now.file.parsed.source.now self.now.file.parsed.image.now)) × SmallCursor c self.now.file.doc) }
+        ensures { Wanted rows (c.row + sizes (call_act self.now.file.parsed.source.now self.now.file.parsed.image.now self.now.state self.now.args (st c)).nodes) result }
     {
-        let most = c.row as usize + self.file.image.len() * BYTE_GIVES / ROW_TAKES;
+        let most = c.row as usize + self.file.parsed.image.len() * BYTE_GIVES / ROW_TAKES;
         if most <= rows {
             return rows;
         }

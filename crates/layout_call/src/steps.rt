@@ -21,13 +21,13 @@ use layout::numbers::{HEAD, past, second};
 // How many declarations there are.
 // kept: a loop, as where the next one starts is known only once this one is passed.
 pub fn count_declarations(file: Accepted<'_>) -> usize
-    ensures { result ≡ length (declared file.entry.source.now file.entry.image.now) }
+    ensures { result ≡ length (declared file.entry.parsed.source.now file.entry.parsed.image.now) }
 {
-    let end = past(file.image, file.doc.tree);
-    let mut p = second(file.image, file.doc.tree);
+    let end = past(file.parsed.image, file.doc.tree);
+    let mut p = second(file.parsed.image, file.doc.tree);
     let mut count = 0;
     while p < end {
-        p = past(file.image, p);
+        p = past(file.parsed.image, p);
         count += 1;
     }
     count
@@ -35,32 +35,31 @@ pub fn count_declarations(file: Accepted<'_>) -> usize
 
 // Where declaration `k` starts, or, of the last one more, where they end.
 fn declaration_at(file: Accepted<'_>, k: usize) -> usize
-    requires { k ≤ length (declared file.source.now file.image.now) }
-    ensures { result ≡ start_of file.entry.source.now file.entry.image.now file.entry.doc.tree k }
+    requires { k ≤ length (declared file.parsed.source.now file.parsed.image.now) }
+    ensures { result ≡ start_of file.entry.parsed.source.now file.entry.parsed.image.now file.entry.doc.tree k }
 {
-    let mut p = second(file.image, file.doc.tree);
+    let mut p = second(file.parsed.image, file.doc.tree);
     for _ in 0..k {
-        p = past(file.image, p);
+        p = past(file.parsed.image, p);
     }
     p
 }
 
 // "The first call lays the shebang"
 fn begin(layout: &mut State<'_>, file: Accepted<'_>, begun: bool)
-    requires { Room (when (not begun) (shebang_rule (given file.source.now file.image.now) (tree file.source.now file.image.now).shebang)) layout.old.cursor }
-    ensures { Does (when (not begun) (shebang_rule (given file.entry.source.now file.entry.image.now) (tree file.entry.source.now file.entry.image.now).shebang)) layout.old layout.new }
+    requires { Room (when (not begun) (shebang_rule (given file.parsed.source.now file.parsed.image.now) (tree file.parsed.source.now file.parsed.image.now).shebang)) layout.old.cursor }
+    ensures { Does (when (not begun) (shebang_rule (given file.entry.parsed.source.now file.entry.parsed.image.now) (tree file.entry.parsed.source.now file.entry.parsed.image.now).shebang)) layout.old layout.new }
 {
     if begun {
         return;
     }
-    let parsed = file.parsed();
-    shebang(layout, &parsed, file.doc.tree + HEAD);
+    shebang(layout, &file.parsed, file.doc.tree + HEAD);
 }
 
 // "closing .. adds the final `Line`", by the mode
 fn end(layout: &mut State<'_>, file: Accepted<'_>, args: LayoutArgs)
-    requires { Room (when args.close (closing (given file.source.now file.image.now) (tree file.source.now file.image.now) (keeps_waiting args.mode))) layout.old.cursor }
-    ensures { Does (when args.close (closing (given file.entry.source.now file.entry.image.now) (tree file.entry.source.now file.entry.image.now) (keeps_waiting args.mode))) layout.old layout.new }
+    requires { Room (when args.close (closing (given file.parsed.source.now file.parsed.image.now) (tree file.parsed.source.now file.parsed.image.now) (keeps_waiting args.mode))) layout.old.cursor }
+    ensures { Does (when args.close (closing (given file.entry.parsed.source.now file.entry.parsed.image.now) (tree file.entry.parsed.source.now file.entry.parsed.image.now) (keeps_waiting args.mode))) layout.old layout.new }
 {
     if args.close {
         close_document(layout, file, args.mode);
@@ -70,25 +69,24 @@ fn end(layout: &mut State<'_>, file: Accepted<'_>, args: LayoutArgs)
 impl Call<'_> {
     // The shebang if nothing is laid yet, the declarations from one up to another, what closing adds if the call closes.
     fn lay(&self, layout: &mut State<'_>)
-        requires stop { (self.now.state.declaration ≤ self.now.args.stop) × (self.now.args.stop ≤ length (declared self.now.file.source.now self.now.file.image.now)) }
-        requires room { Room (call_act self.now.file.source.now self.now.file.image.now self.now.state self.now.args) layout.old.cursor }
-        ensures { Does (call_act self.now.file.source.now self.now.file.image.now self.now.state self.now.args) layout.old layout.new }
+        requires stop { (self.now.state.declaration ≤ self.now.args.stop) × (self.now.args.stop ≤ length (declared self.now.file.parsed.source.now self.now.file.parsed.image.now)) }
+        requires room { Room (call_act self.now.file.parsed.source.now self.now.file.parsed.image.now self.now.state self.now.args) layout.old.cursor }
+        ensures { Does (call_act self.now.file.parsed.source.now self.now.file.parsed.image.now self.now.state self.now.args) layout.old layout.new }
     {
         let file = self.file;
         let from = self.state.declaration;
         begin(layout, file, self.state.begun);
         let p = declaration_at(file, from);
         let q = declaration_at(file, self.args.stop);
-        let parsed = file.parsed();
-        declarations(layout, &parsed, p, q, from == 0);
+        declarations(layout, &file.parsed, p, q, from == 0);
         end(layout, file, self.args);
     }
 
     // The same in a store, from a cursor on; it returns the cursor behind it.
     pub(crate) fn lay_from(&self, store: &mut [u32], c: Cursor) -> Cursor
-        requires stop { (self.now.state.declaration ≤ self.now.args.stop) × (self.now.args.stop ≤ length (declared self.now.file.source.now self.now.file.image.now)) }
-        requires room { Room (call_act self.now.file.source.now self.now.file.image.now self.now.state self.now.args) c }
-        ensures { Laid (call_act self.now.file.source.now self.now.file.image.now self.now.state self.now.args) store.old c store.new result }
+        requires stop { (self.now.state.declaration ≤ self.now.args.stop) × (self.now.args.stop ≤ length (declared self.now.file.parsed.source.now self.now.file.parsed.image.now)) }
+        requires room { Room (call_act self.now.file.parsed.source.now self.now.file.parsed.image.now self.now.state self.now.args) c }
+        ensures { Laid (call_act self.now.file.parsed.source.now self.now.file.parsed.image.now self.now.state self.now.args) store.old c store.new result }
     {
         let mut layout = State { store, cursor: c };
         self.lay(&mut layout);

@@ -51,7 +51,7 @@ pub struct Drawn {
 }
 
 // A rendering call that 1, 3, 11, 12 and 15 do not refuse.
-// kept: here and below, each of what C lends by itself, as `exports` has it.
+// kept: here and below, each of what a caller lends by itself, as C lends it to `render_call`; below they are one `Call`.
 pub fn render_checked(
     source: &[u8],
     image: &[u8],

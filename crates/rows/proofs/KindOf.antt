@@ -1,7 +1,7 @@
 -- A kind and its number, each from the other.
 -- Assumes nothing.
 use mathlib.Core.Path.{◌≡◌, refl, sym, ap, ◌∙◌}
-use Prim.Native.Nat.{ℕ, zero, suc, ◌≤◌, ◌<◌}
+use Prim.Native.Nat.{ℕ, zero, suc, ◌≤◌}
 use native.Mathlib.Omega.{arith}
 use Rattle.std.specs.Prelude.{Option, Some, None}
 use Rattle.rows.specs.Kinds.{CALL, Cases, case_of, number_of, kind_of}
@@ -60,24 +60,6 @@ kind_back kinds.EmptyLine = refl
 kind_back kinds.LineOrSpace = refl
 kind_back kinds.IfWrap = refl
 kind_back kinds.Call = refl
-
-pub kind_known : (n : ℕ) (k : Kind) → n ≡ number_of k → Some k ≡ kind_of n
-kind_known n k e = sym (ap kind_of e ∙ kind_back k)
-
-pub above : (n : ℕ) → CALL < n → None ≡ kind_of n
-above zero h = absurd (omega arith)
-above (suc zero) h = absurd (omega arith)
-above (suc (suc zero)) h = absurd (omega arith)
-above (suc (suc (suc zero))) h = absurd (omega arith)
-above (suc (suc (suc (suc zero)))) h = absurd (omega arith)
-above (suc (suc (suc (suc (suc zero))))) h = absurd (omega arith)
-above (suc (suc (suc (suc (suc (suc zero)))))) h = absurd (omega arith)
-above (suc (suc (suc (suc (suc (suc (suc zero))))))) h = absurd (omega arith)
-above (suc (suc (suc (suc (suc (suc (suc (suc zero)))))))) h = absurd (omega arith)
-above (suc (suc (suc (suc (suc (suc (suc (suc (suc zero))))))))) h = absurd (omega arith)
-above (suc (suc (suc (suc (suc (suc (suc (suc (suc (suc zero)))))))))) h = absurd (omega arith)
-above (suc (suc (suc (suc (suc (suc (suc (suc (suc (suc (suc zero))))))))))) h = absurd (omega arith)
-above (suc (suc (suc (suc (suc (suc (suc (suc (suc (suc (suc (suc n)))))))))))) h = refl
 
 -- a number is of one kind at most
 pub number_same : (a b : Kind) → number_of a ≡ number_of b → a ≡ b

@@ -19,7 +19,7 @@ pub fn is_whitespace(c: u32) -> bool
 }
 
 // The end of the range from `from` to `to` without the white space at its end.
-// kept: the range is a caller's, and may be reversed or go past the text; it is a slice from here on.
+// kept: what it promises is of every range, and one that is reversed or goes past the text is no slice; what is one is a slice from here on.
 #[tactic(auto, using(crate::proofs::Walks::left_smaller, crate::proofs::Characters::before_inside))]
 pub fn trim_end(s: &[u8], from: usize, to: usize) -> usize
     ensures { result ≡ trim_end s.now from to }
@@ -27,6 +27,7 @@ pub fn trim_end(s: &[u8], from: usize, to: usize) -> usize
     let Some(mut text) = s.get(from..to) else {
         return to;
     };
+    // kept: the end comes down by as many bytes as the last character has, which only the character tells.
     while let Some(last) = last_char(text) {
         if !is_whitespace(last.code) {
             break;

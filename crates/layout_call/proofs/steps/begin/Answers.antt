@@ -12,12 +12,7 @@ overflow_add-file c =
     omega (arith, (stands c.args.file.accepts).small, (stands c.args.file.accepts).tree.end)
 
 pub shebang-requires : goal.shebang-requires
-shebang-requires c =
-    rw (c.parsed-parsed.ensures.0, c.parsed-parsed.ensures.1)
-    (has_shebang c.args.file.accepts (rw c.if-begun.false at c.requires))
+shebang-requires c = has_shebang c.args.file.accepts (rw c.if-begun.false at c.requires)
 
 pub returns : goal.returns
-returns c =
-    let p = c.parsed-parsed.ensures in
-    rw c.if-begun.false
-    (shebang_laid c.args.file.accepts _ p.0 p.1 c.shebang.ensures (rw c.if-begun.false at c.requires))
+returns c = rw c.if-begun.false (shebang_laid c.args.file.accepts c.shebang.ensures (rw c.if-begun.false at c.requires))

@@ -7,23 +7,21 @@ begin-requires c = room_first _ c.requires.room
 
 pub declarations-requires : goal.declarations-requires
 declarations-requires c =
-    rw (c.declaration_at-p.ensures, c.declaration_at-q.ensures, c.parsed-parsed.ensures.0, c.parsed-parsed.ensures.1)
+    rw (c.declaration_at-p.ensures, c.declaration_at-q.ensures)
     (has_part c.args.self.now.file.accepts _ _ c.requires.stop.0 _ (room_first _ (room_past c.requires.room c.begin.ensures.laid)))
 
 pub end-requires : goal.end-requires
 end-requires c =
-    let p = c.parsed-parsed.ensures in
     let room = room_past c.requires.room c.begin.ensures.laid in
     room_past room
-    (part_laid c.args.self.now.file.accepts _ _ c.requires.stop.0 _ _ p.0 p.1
+    (part_laid c.args.self.now.file.accepts _ _ c.requires.stop.0 _
     (rw (c.declaration_at-p.ensures, c.declaration_at-q.ensures) at c.declarations.ensures)
     (room_first _ room)).laid
 
 pub returns : goal.returns
 returns c =
-    let p = c.parsed-parsed.ensures in
     let part =
-    part_laid c.args.self.now.file.accepts _ _ c.requires.stop.0 _ _ p.0 p.1
+    part_laid c.args.self.now.file.accepts _ _ c.requires.stop.0 _
     (rw (c.declaration_at-p.ensures, c.declaration_at-q.ensures) at c.declarations.ensures)
     (room_first _ (room_past c.requires.room c.begin.ensures.laid))
     in

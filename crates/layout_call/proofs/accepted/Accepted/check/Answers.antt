@@ -1,0 +1,13 @@
+use mathlib.Core.Path.{sym, ap, ◌∙◌}
+use Rattle.image.specs.declared.Document.{Document}
+use Rattle.refusals.specs.Reasons.{answer_of}
+use Rattle.comments.proofs.Accepted.{accepted_listed}
+use Rattle.layout_call.proofs.accepted.Accepted.check.Goals as goal
+
+pub invariant_of-parsed : goal.invariant_of-parsed
+invariant_of-parsed c =
+    record {
+      listed =
+          accepted_listed c.args.source.now c.args.image.now c.in_ok-doc.doc
+          (record { answer = sym c.check.ensures ∙ ap (answer_of (λ (d : Document). d)) c.in_ok-doc.was });
+    }
