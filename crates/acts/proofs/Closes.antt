@@ -13,7 +13,7 @@ use Rattle.acts.specs.declared.Cursor.{Cursor}
 use Rattle.acts.specs.declared.State.{State}
 use Rattle.acts.specs.declared.parts.Branch.TheVariants.{Group, Indent, IndentNext, Call}
 use Rattle.acts.specs.Laid.{Room, Laid}
-use Rattle.acts.specs.Does.{Does, Opening, Marks, Pushed}
+use Rattle.acts.specs.Does.{Does, Opens, Marks, Pushed}
 use Rattle.acts.proofs.Laws.{Lays}
 use Rattle.acts.proofs.Nested.{lays_group, lays_indent, lays_indent_next, lays_called, laid_if_wrap}
 
@@ -39,26 +39,26 @@ pub laid_from : {a : Act} {place r to : ℕ} {s : List ℕ} {c : Cursor} {u v : 
 laid_from {a} {s = s} {c = c} {v = v} m l = subst (λ (x : Cursor). Laid a v.store.now x s c) m.stays l
 
 -- the row of an indent, from inside it
-pub indent_at : {r : ℕ} {s t : State} → Opening Indent s t r → r ≡ t.cursor.row - 1
+pub indent_at : {r : ℕ} {s t : State} → Opens Indent s t r → r ≡ t.cursor.row - 1
 indent_at o = omega (arith, o.row, ap (λ (x : Cursor). x.row) o.opened.moved)
 
-pub closes_group : (a : ℕ → Act) {r : ℕ} {s t u v : State} → Opening Group s t r
+pub closes_group : (a : ℕ → Act) {r : ℕ} {s t u v : State} → Opens Group s t r
     → Lays (a s.cursor.number) t.store.now t.cursor u.store.now u.cursor → Marks 4 r u.cursor.row u v
     → Lays (grouped a) s.store.now s.cursor v.store.now v.cursor
 closes_group a o l m = ends m (lays_group a o.opened l (at_row o.row m))
 
-pub closes_indent : {a : Act} {r : ℕ} {s t u v : State} → Opening Indent s t r
+pub closes_indent : {a : Act} {r : ℕ} {s t u v : State} → Opens Indent s t r
     → Lays a t.store.now t.cursor u.store.now u.cursor → Marks 4 r u.cursor.row u v
     → Lays (indented a) s.store.now s.cursor v.store.now v.cursor
 closes_indent o l m = ends m (lays_indent o.opened l (at_row o.row m))
 
-pub closes_indent_next : {a : Act} {r : ℕ} {s t u v : State} → Opening IndentNext s t r
+pub closes_indent_next : {a : Act} {r : ℕ} {s t u v : State} → Opens IndentNext s t r
     → Lays a t.store.now t.cursor u.store.now u.cursor → Marks 4 r u.cursor.row u v
     → Lays (indented_next a) s.store.now s.cursor v.store.now v.cursor
 closes_indent_next o l m = ends m (lays_indent_next o.opened l (at_row o.row m))
 
 -- both parts of a call, whose second part starts where the first ends
-pub closes_call : {a b : Act} {r second : ℕ} {s t v w x : State} {y : List ℕ} {d : Cursor} → Opening Call s t r
+pub closes_call : {a b : Act} {r second : ℕ} {s t v w x : State} {y : List ℕ} {d : Cursor} → Opens Call s t r
     → Lays a t.store.now t.cursor y d → second ≡ d.row → Lays b y d v.store.now v.cursor
     → Marks 3 r second v w → Marks 4 r w.cursor.row w x → Lays (called a b) s.store.now s.cursor x.store.now x.cursor
 closes_call {a} {b} {second = second} {s} {t} {v} {w} {x} {y} {d} o p e q m n =

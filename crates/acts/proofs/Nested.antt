@@ -11,7 +11,7 @@ use Rattle.rows.specs.Node.{Node, Nodes, group, indent, indent_next, if_wrap, no
 use Rattle.rows.specs.Rows.{size, sizes, row, no_text, rows_of, rows}
 use Rattle.acts.specs.Act.{Out, Act, push, grouped, indented, indented_next, called}
 use Rattle.acts.specs.declared.Cursor.{Cursor}
-use Rattle.acts.specs.Laid.{cursor, st, top, Room, Opens, Laid, Written, Opened}
+use Rattle.acts.specs.Laid.{cursor, st, top, Room, CanOpen, Laid, Written, Opened}
 use Rattle.laws.proofs.Stores.{sets_append, set_sets}
 use Rattle.acts.proofs.Joins.{length_rows}
 use Rattle.acts.proofs.Laws.{Lays}
@@ -77,7 +77,7 @@ laid_part mk k n t {a} {b} {s} {s₁} {s₂} {s₃} {c} {c₁} {c₂} o made who
     }
 
 -- room for a node is room to open it, and for its part at the cursor inside
-pub opens_group : (a : ℕ → Act) {c : Cursor} → Room (grouped a) c → Opens 1 c
+pub opens_group : (a : ℕ → Act) {c : Cursor} → Room (grouped a) c → CanOpen 1 c
 unfolding grouped sizes size
 opens_group a room = record { row_fits = omega (arith, room.rows_fit); numbers_fit = omega (arith, room.numbers_fit) }
 
@@ -117,7 +117,7 @@ room_inside {a} {c = c} rows numbers p =
       numbers_fit = subst (λ (x : Out). c.number + 0 + x.taken ≤ top) (sym e) (omega arith);
     })
 
-pub opens_indent : (a : Act) {c : Cursor} → Room (indented a) c → Opens 0 c
+pub opens_indent : (a : Act) {c : Cursor} → Room (indented a) c → CanOpen 0 c
 unfolding indented sizes size
 opens_indent a room = record { row_fits = omega (arith, room.rows_fit); numbers_fit = omega (arith, room.numbers_fit) }
 
@@ -135,7 +135,7 @@ pub lays_indent : {a : Act} {s s₁ s₂ s₃ : List ℕ} {c c₁ c₂ : Cursor}
     → s₃ ≡ set s₂ (9 * c.row + 4) c₂.row → Lays (indented a) s c s₃ c₂
 lays_indent p q e = record { does = λ room. laid_indent p (q.does (room_indent room p)) e }
 
-pub opens_indent_next : (a : Act) {c : Cursor} → Room (indented_next a) c → Opens 0 c
+pub opens_indent_next : (a : Act) {c : Cursor} → Room (indented_next a) c → CanOpen 0 c
 unfolding indented_next sizes size
 opens_indent_next a room = record { row_fits = omega (arith, room.rows_fit); numbers_fit = omega (arith, room.numbers_fit) }
 
@@ -154,7 +154,7 @@ pub lays_indent_next : {a : Act} {s s₁ s₂ s₃ : List ℕ} {c c₁ c₂ : Cu
 lays_indent_next p q e = record { does = λ room. laid_indent_next p (q.does (room_indent_next room p)) e }
 
 -- ---- two parts
-pub opens_called : (a b : Act) {c : Cursor} → Room (called a b) c → Opens 2 c
+pub opens_called : (a b : Act) {c : Cursor} → Room (called a b) c → CanOpen 2 c
 unfolding called sizes size
 opens_called a b room = record { row_fits = omega (arith, room.rows_fit); numbers_fit = omega (arith, room.numbers_fit) }
 

@@ -65,7 +65,7 @@ second_number branches.Call n = n + 1
 second_number branch n = 0
 
 -- a node with parts is opened: its row, r, is written as one without parts
-pub record Opening (b : Branch) (s t : State) (r : ℕ) : Type 0 where
+pub record Opens (b : Branch) (s t : State) (r : ℕ) : Type 0 where
   pub opened :
       Opened (kind_of b) (first_number b s.cursor.number) (second_number b s.cursor.number) (taken_by b)
       s.store.now s.cursor t.store.now t.cursor

@@ -3,15 +3,21 @@ use Rattle.std.specs.Prelude.{◌≡◌, ℕ, ◌+◌, ◌*◌, ◌≤◌, ◌<�
 use Rattle.std.proofs.lemmas.List.Edits.{sets}
 use Rattle.rows.specs.Places.{PLACES}
 use Rattle.rows.specs.Node.{Text}
+use Rattle.rows.specs.Texts.{origin_number}
 use Rattle.rows.specs.Rows.{sizes, row, rows, no_text}
 use Rattle.acts.specs.Act.{St, Out, Act, Asking, step_alone}
 use Rattle.rows.specs.Kinds.{number_of}
 use Rattle.acts.specs.declared.Cursor.{Cursor}
 use Rattle.acts.specs.declared.store.Row.{Row}
+use Rattle.acts.specs.declared.store.Text.{Text as RowText}
 
 -- a text by its origin, its start and its length
 abbrev pub text : ℕ → ℕ → ℕ → Text
 text o from n = record { origin = o; start = from; size = n }
+
+-- the text that a row has
+abbrev pub text_of : RowText → Text
+text_of t = text (origin_number t.origin) t.start t.size
 
 -- a cursor: next row, next number, position, comments placed
 abbrev pub cursor : ℕ → ℕ → ℕ → ℕ → Cursor
@@ -35,7 +41,7 @@ pub record Room (a : Act) (c : Cursor) : Type 0 where
   pub numbers_fit : c.number + (a (st c)).taken ≤ top
 
 -- the row of a node with parts can be numbered, and so can the node
-pub record Opens (taken : ℕ) (c : Cursor) : Type 0 where
+pub record CanOpen (taken : ℕ) (c : Cursor) : Type 0 where
   pub row_fits : c.row < top
   pub numbers_fit : c.number + taken ≤ top
 
@@ -51,7 +57,7 @@ pub record LaidAsking {A : Type 0} (a : Asking A) (s : List ℕ) (c : Cursor) (s
 
 -- the nine places of a row as it is written at first, where the row `next` comes after it
 abbrev pub cells_at : ℕ → Row → List ℕ
-cells_at next r = row (number_of r.kind) r.number r.second_number 0 next (text r.origin r.start r.size) r.width
+cells_at next r = row (number_of r.kind) r.number r.second_number 0 next (text_of r.text) r.width
 
 abbrev pub cells_of : Row → List ℕ
 cells_of r = cells_at r.after r

@@ -7,9 +7,10 @@ ghost use Rattle.acts.specs.Laid.{cells_at};
 ghost use Rattle.acts.specs.Does.{Small, node_of};
 
 use crate::State;
-use crate::store::Row;
+use crate::store::{Row, Text};
 use crate::words::{Word, place_of};
 use rows::kinds::Kind;
+use rows::origins::Origin;
 use rows::units::{Bytes, Columns};
 
 #[derive(Clone, Copy, Debug, PartialEq, Eq)]
@@ -51,32 +52,43 @@ fn row_of(leaf: Leaf) -> Row
         },
         Leaf::Comment { start, size } => Row {
             kind: Kind::Comment,
-            start,
-            size: size.0 as u32,
+            text: Text {
+                origin: Origin::Source,
+                start,
+                size: size.0 as u32,
+            },
             ..Row::BLANK
         },
         Leaf::Str { start, size, width } => Row {
             kind: Kind::Str,
-            origin: 1,
-            start,
-            size: size.0 as u32,
+            text: Text {
+                origin: Origin::Image,
+                start,
+                size: size.0 as u32,
+            },
             width: width.0 as u32,
             ..Row::BLANK
         },
         Leaf::Ascii { start, size } => Row {
             kind: Kind::Ascii,
-            start,
-            size: size.0 as u32,
+            text: Text {
+                origin: Origin::Source,
+                start,
+                size: size.0 as u32,
+            },
             ..Row::BLANK
         },
+        // kept: field by field: a word's place has no origin, and here it gets one; a conversion would have this as its one user.
         Leaf::Word(w) => {
-            // kept: a row has a place's two numbers among its own nine.
             let place = place_of(w);
-            Row {
-                kind: Kind::Ascii,
-                origin: 2,
+            let text = Text {
+                origin: Origin::Words,
                 start: place.start,
                 size: place.size,
+            };
+            Row {
+                kind: Kind::Ascii,
+                text,
                 ..Row::BLANK
             }
         }

@@ -2,10 +2,11 @@
 ghost use Rattle.std.specs.Prelude.{◌≡◌};
 
 use crate::State;
-use crate::store::{Row, put};
+use crate::store::Row;
 use crate::words::Word;
 use rows::kinds::Kind;
 use rows::places::{AFTER, PLACES, SECOND};
+use rows::store::put;
 
 // `Group` takes the next number, `Call` the next two.
 #[derive(Clone, Copy, Debug, PartialEq, Eq)]
@@ -21,15 +22,15 @@ impl State<'_> {
     ghost use Rattle.rows.specs.Node.{ascii, if_wrap};
     ghost use Rattle.rows.specs.Words.{word};
     ghost use Rattle.acts.specs.Act.{push};
-    ghost use Rattle.acts.specs.Laid.{Opens, Room};
-    ghost use Rattle.acts.specs.Does.{Does, Opening, Marks, taken_by};
+    ghost use Rattle.acts.specs.Laid.{CanOpen, Room};
+    ghost use Rattle.acts.specs.Does.{Does, Opens, Marks, taken_by};
     ghost use Rattle.acts.specs.Spelling.{spelling};
 
     // Opens a node, and returns its row.
     #[inline(always)]
     pub fn open(&mut self, node: Branch) -> u32
-        requires { Opens (taken_by node) self.old.cursor }
-        ensures { Opening node self.old self.new result }
+        requires { CanOpen (taken_by node) self.old.cursor }
+        ensures { Opens node self.old self.new result }
     {
         let opened = self.cursor.row;
         let number = self.cursor.number;

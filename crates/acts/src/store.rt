@@ -1,13 +1,23 @@
 // Writing rows. A place past the end of the store is dropped: a run over an empty store still counts the rows.
-ghost use Rattle.std.specs.Prelude.{◌≡◌, ◌+◌, ◌*◌, ◌<◌, ◌^◌, length, set};
+ghost use Rattle.std.specs.Prelude.{◌≡◌, ◌+◌, ◌*◌, ◌<◌, ◌^◌, length};
 ghost use Rattle.std.proofs.lemmas.List.Edits.{sets};
 ghost use Rattle.rows.specs.Places.{WIDTH, PLACES};
 ghost use Rattle.rows.specs.Kinds.{number_of};
-ghost use Rattle.acts.specs.Laid.{text, top, cells_of};
+ghost use Rattle.acts.specs.Laid.{text_of, top, cells_of};
 
 use crate::State;
 use rows::kinds::Kind;
-use rows::places::{AFTER, NUMBER, ORIGIN, PLACES, SECOND, SECOND_NUMBER, SIZE, START, WIDTH};
+use rows::origins::Origin;
+use rows::places::{PLACES, WIDTH};
+use rows::store::put;
+
+// What a text is a part of, where it starts there, and how many bytes it has.
+#[derive(Clone, Copy, Debug, PartialEq, Eq)]
+pub struct Text {
+    pub origin: Origin,
+    pub start: u32,
+    pub size: u32,
+}
 
 // A row as it is written at first: the place of its second part is 0, and set later where it has one.
 #[derive(Clone, Copy, Debug, PartialEq, Eq)]
@@ -16,9 +26,7 @@ pub struct Row {
     pub number: u32,
     pub second_number: u32,
     pub after: u32,
-    pub origin: u32,
-    pub start: u32,
-    pub size: u32,
+    pub text: Text,
     pub width: u32,
 }
 
@@ -29,53 +37,43 @@ impl Row {
         number: 0,
         second_number: 0,
         after: 0,
-        origin: 0,
-        start: 0,
-        size: 0,
+        text: Text {
+            origin: Origin::Source,
+            start: 0,
+            size: 0,
+        },
         width: 0,
     };
 }
 
-// Stores v at i, or nothing where i is past the end.
-pub(crate) fn put(store: &mut [u32], i: usize, v: u32)
-    ensures { store.new ≡ set store.old i v }
-{
-    if i < store.len() {
-        store[i] = v;
-    }
-}
-
-// Writes the nine places of a row from i on, which the store has.
+// The nine numbers of a row.
 #[inline(always)]
-fn fill_row(store: &mut [u32], i: usize, r: &Row)
-    requires { i + WIDTH < length store.old }
-    ensures { store.new ≡ sets store.old i (cells_of r.now) }
+fn cells(r: &Row) -> [u32; 9]
+    ensures { result ≡ cells_of r.now }
 {
-    store[i] = r.kind.number();
-    store[i + NUMBER] = r.number;
-    store[i + SECOND_NUMBER] = r.second_number;
-    store[i + SECOND] = 0;
-    store[i + AFTER] = r.after;
-    store[i + ORIGIN] = r.origin;
-    store[i + START] = r.start;
-    store[i + SIZE] = r.size;
-    store[i + WIDTH] = r.width;
+    [
+        r.kind.number(),
+        r.number,
+        r.second_number,
+        0,
+        r.after,
+        r.text.origin.number(),
+        r.text.start,
+        r.text.size,
+        r.width,
+    ]
 }
 
-// Writes those of the nine places that the store has.
-fn put_row(store: &mut [u32], i: usize, r: &Row)
+// Writes those of the nine numbers that the store has room for.
+#[tactic(auto, using(laws::proofs::Stores::sets_append))]
+fn put_cells(store: &mut [u32], i: usize, cells: &[u32; 9])
     requires { i + WIDTH < 2 ^ 64 }
-    ensures { store.new ≡ sets store.old i (cells_of r.now) }
+    ensures { store.new ≡ sets store.old i cells.now }
 {
-    put(store, i, r.kind.number());
-    put(store, i + NUMBER, r.number);
-    put(store, i + SECOND_NUMBER, r.second_number);
-    put(store, i + SECOND, 0);
-    put(store, i + AFTER, r.after);
-    put(store, i + ORIGIN, r.origin);
-    put(store, i + START, r.start);
-    put(store, i + SIZE, r.size);
-    put(store, i + WIDTH, r.width);
+    // kept: by the number: the store may end at any of the places, so that each is tested; `enumerate` would give both a number and a cell.
+    for k in 0..PLACES {
+        put(store, i + k, cells[k]);
+    }
 }
 
 // Writes the nine places of a row.
@@ -83,11 +81,12 @@ fn write_row(store: &mut [u32], row: u32, r: &Row)
     ensures { store.new ≡ sets store.old (PLACES * row) (cells_of r.now) }
 {
     let i = PLACES * (row as usize);
+    let cells = cells(r);
     if i + WIDTH < store.len() {
-        fill_row(store, i, r);
+        store[i..i + PLACES].copy_from_slice(&cells);
         return;
     }
-    put_row(store, i, r);
+    put_cells(store, i, &cells);
 }
 
 impl State<'_> {
@@ -97,7 +96,7 @@ impl State<'_> {
     #[inline(always)]
     pub(crate) fn push_row(&mut self, r: Row)
         requires { self.old.cursor.row < top }
-        ensures { Pushed (number_of r.kind) r.number r.second_number (text r.origin r.start r.size) r.width self.old self.new }
+        ensures { Pushed (number_of r.kind) r.number r.second_number (text_of r.text) r.width self.old self.new }
     {
         let after = self.cursor.row + 1;
         write_row(self.store, self.cursor.row, &Row { after, ..r });

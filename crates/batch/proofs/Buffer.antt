@@ -7,9 +7,9 @@ use mathlib.Core.List.{List, [], ◌∷◌}
 use Prim.Native.Nat.{ℕ, zero, suc, ◌+◌, ◌-◌, ◌≤◌, ◌<◌}
 use native.Mathlib.Nat.{zero-add}
 use native.Mathlib.Omega.{arith}
-use lib.Dec.{ltb, leb}
+use lib.Dec.{ltb, leb, eqb}
 use lib.ListN.{length}
-use borrow.Author.Tests.{ltb-true, ltb-false, leb-true, leb-false, lt-ltb, le-ltb, le-leb, lt-leb}
+use borrow.Author.Tests.{ltb-true, ltb-false, leb-true, leb-false, lt-ltb, le-ltb, le-leb, lt-leb, eqb-true, eqb-false}
 use Rattle.laws.proofs.Numbers.{one_more}
 use Rattle.image.specs.Read.{Read, got, bad, bind, read_refusal}
 use Rattle.batch.specs.Batch.{MAX_SAVES, Save, frame_end, save_at, saves_from, all_saves, saves_by}
@@ -39,7 +39,8 @@ module _ (f : List ℕ) where
   unfolding saves_from
   cut_off n at h k = rw (lt-ltb at (length f) h, lt-leb (frame_end f at) (length f) k)
 
-  goes_on : (n at : ℕ) → at < length f → frame_end f at ≤ length f → saves_from f (suc n) at ≡ one_more_lem (save_at f at) (saves_from f n (frame_end f at))
+  goes_on : (n at : ℕ) → at < length f → frame_end f at ≤ length f
+      → saves_from f (suc n) at ≡ one_more_lem (save_at f at) (saves_from f n (frame_end f at))
   unfolding saves_from
   goes_on n at h k = rw (lt-ltb at (length f) h, le-leb (frame_end f at) (length f) k)
 
@@ -85,9 +86,19 @@ module _ (f : List ℕ) where
         let z : MAX_SAVES - files ≡ 0 = omega arith in
         sym (ap (frames_after files) (ap (λ (n : ℕ). saves_from f n at) z ∙ too_many at h)) ∙ p.same
 
-    pub passed_cut : at < length f → files < MAX_SAVES → length f < frame_end f at → refused (record { number = 18; place = at }) ≡ frames_by (all_saves f)
+    pub passed_cut : at < length f → files < MAX_SAVES → length f < frame_end f at
+        → refused (record { number = 18; place = at }) ≡ frames_by (all_saves f)
     passed_cut h l k =
-        sym (ap (frames_after files) (ap (λ (n : ℕ). saves_from f n at) (one_more MAX_SAVES files l) ∙ cut_off (MAX_SAVES - (files + 1)) at h k)) ∙ p.same
+        sym (ap (frames_after files) (ap (λ (n : ℕ). saves_from f n at) (one_more MAX_SAVES files l) ∙ cut_off (MAX_SAVES - (files + 1)) at h k))
+        ∙ p.same
+
+    -- where the frame here runs past the end, or is one too many
+    pub passed_end : at < length f → length f < frame_end f at → refused (record { number = 18; place = at }) ≡ frames_by (all_saves f)
+    passed_end h k = go (eqb files MAX_SAVES) refl
+      where
+        go : (t : Bool) → eqb files MAX_SAVES ≡ t → refused (record { number = 18; place = at }) ≡ frames_by (all_saves f)
+        go true e = passed_many h (eqb-true files MAX_SAVES e)
+        go false e = passed_cut h (omega (arith, eqb-false files MAX_SAVES e, p.few)) k
 
     pub passed_all : length f ≤ at → accepted files ≡ frames_by (all_saves f)
     passed_all h =
@@ -124,7 +135,8 @@ module _ (f : List ℕ) where
     pub files : Files at (saves_by r)
     pub few : length (saves_by r) ≤ n
 
-  listed_more : (n at : ℕ) (r : Read (List Save)) → at < length f → frame_end f at ≤ length f → (read_refusal r ≡ None → Listed n (frame_end f at) r)
+  listed_more : (n at : ℕ) (r : Read (List Save)) → at < length f → frame_end f at ≤ length f
+      → (read_refusal r ≡ None → Listed n (frame_end f at) r)
       → read_refusal (one_more_lem (save_at f at) r) ≡ None
       → Listed (suc n) at (one_more_lem (save_at f at) r)
   listed_more n at (got xs end) h k later e = let l = later refl in record { files = more h k l.files; few = omega (arith, l.few) }
@@ -187,7 +199,8 @@ framed_by f (got xs end) e files h =
     record { passes = ap read_refusal e; count = g ∙ sym (ap (λ (r : Read (List Save)). length (saves_by r)) e) }
 framed_by f (bad n p) e files h = absurd (cc)
 
-pub framed_ok : (f : List ℕ) (r : Result ℕ Refused) (files : ℕ) → answer_of (λ n. n) r ≡ frames_by (all_saves f) → r ≡ Ok files → Framed f files
+pub framed_ok : (f : List ℕ) (r : Result ℕ Refused) (files : ℕ) → answer_of (λ n. n) r ≡ frames_by (all_saves f) → r ≡ Ok files
+    → Framed f files
 framed_ok f r files h e = framed_by f (all_saves f) refl files (sym (ap (answer_of (λ (n : ℕ). n)) e) ∙ h)
 
 pub cut_refuses : (x : Read (List Save)) (r : Refusal) → refused r ≡ frames_by x → read_refusal x ≡ Some r

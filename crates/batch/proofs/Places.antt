@@ -31,7 +31,8 @@ pick : {A : Type 0} (m : ℕ) (t : Bool) (x y : Read A) → (t ≡ true → Befo
 pick m true x y p q = p refl
 pick m false x y p q = q refl
 
-then : {A B : Type 0} (m : ℕ) (r : Read A) (k : A → ℕ → Read B) → Before m r → ((a : A) (n : ℕ) → r ≡ got a n → Before m (k a n)) → Before m (bind r k)
+then : {A B : Type 0} (m : ℕ) (r : Read A) (k : A → ℕ → Read B) → Before m r → ((a : A) (n : ℕ) → r ≡ got a n → Before m (k a n))
+    → Before m (bind r k)
 then m (got a n) k p q = q a n refl
 then m (bad n l) k p q = p
 
@@ -50,7 +51,8 @@ opens_before s b v left p at end m h =
 abbrev Kept : (ℕ → ℕ → ℕ → Read Tree) → ℕ → Type 0
 Kept one stop = (p at : ℕ) → at ≤ stop → Before stop (one p at stop) × ((t : Tree) (q : ℕ) → one p at stop ≡ got t q → q ≤ stop)
 
-children_before : (one : ℕ → ℕ → ℕ → Read Tree) (stop : ℕ) → Kept one stop → (n row at : ℕ) → at ≤ stop → Before stop (children_at one n row at stop)
+children_before : (one : ℕ → ℕ → ℕ → Read Tree) (stop : ℕ) → Kept one stop → (n row at : ℕ) → at ≤ stop
+    → Before stop (children_at one n row at stop)
 unfolding children_at
 children_before one stop f zero row at h = h
 children_before one stop f (suc n) row at h =

@@ -119,7 +119,8 @@ module _ (f : List ℕ) (c : FileChoice) (table out : List ℕ) where
         pub has_room : Room c f table out
         has_room = record { passes = w.passes; rows = omega (arith, cells_needed); texts = omega arith }
 
-        pub done : (table2 out2 : List ℕ) → Written c f table out table2 out2 → Batches f c table out (Ok (record { files = k; bytes = bytes })) table2 out2
+        pub done : (table2 out2 : List ℕ) → Written c f table out table2 out2
+            → Batches f c table out (Ok (record { files = k; bytes = bytes })) table2 out2
         done table2 out2 z =
             let e : refusal ≡ None = by_rooms false false table_fits (le-ltb (length out) (length (texts_due c f)) (omega arith)) in
             record {

@@ -1,5 +1,5 @@
 -- What the batch's code answers and leaves, by the definitions of Batch.antt.
-use Rattle.std.specs.Prelude.{◌≡◌, List, [], ◌∷◌, ℕ, ◌^◌, ◌<◌, ◌≤◌, length, None, Result}
+use Rattle.std.specs.Prelude.{◌≡◌, List, [], ◌∷◌, ℕ, ◌^◌, ◌<◌, ◌≤◌, length, MatchOption, Option, None, Result}
 use Rattle.refusals.specs.Answers.{Answer, refused, accepted}
 use Rattle.refusals.specs.Reasons.{answer_of}
 use Rattle.refusals.specs.declared.Refused.{Refused}
@@ -10,6 +10,7 @@ use Rattle.batch.specs.Batch.{Save, frame_end, save_at, all_saves, saves_by, row
 use Rattle.batch.specs.Batch.{batch_answer, table_due, texts_due, table_left, texts_left}
 use Rattle.batch.specs.declared.Batch.{Batch}
 use Rattle.batch.specs.declared.frames.Frame.{Frame}
+use Rattle.batch.specs.declared.frames.Frames.{Frames}
 use Rattle.batch.specs.declared.writing.Row.{Row}
 
 -- An answer of the code's.
@@ -32,6 +33,11 @@ pub record IsFrame (f : List ℕ) (at : ℕ) (x : Frame) : Type 0 where
   pub inside : frame_end f at ≤ length f
   pub end : x.end ≡ frame_end f at
   pub file : saved x ≡ save_at f at
+
+-- what `Frames` gives: the frame at its place, where that ends in the buffer, and goes on behind it
+pub record GivesFrame (s : Frames) (r : Option Frame) (t : Frames) : Type 0 where
+  pub buffer : t.frames.now ≡ s.frames.now
+  pub frame : MatchOption r (length s.frames.now < frame_end s.frames.now s.at) (λ x. IsFrame s.frames.now s.at x × (t.at ≡ x.end))
 
 -- how many frames there are, or the refusal of the first at fault
 abbrev pub frames_by : Read (List Save) → Answer ℕ

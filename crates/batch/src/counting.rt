@@ -5,7 +5,7 @@ ghost use Rattle.file.specs.Whole.{to_choice};
 ghost use Rattle.batch.specs.Batch.{all_saves, texts_due};
 ghost use Rattle.batch.specs.Whole.{saved, text_of};
 
-use crate::frames::{Frame, frame_at};
+use crate::frames::{Frame, Frames};
 use file::{FileChoice, format_file};
 use refusals::{Reason, Refused};
 
@@ -32,12 +32,9 @@ pub(crate) fn count_texts(frames: &[u8], choice: FileChoice) -> usize
     requires { read_refusal (all_saves frames.now) ≡ None }
     ensures { result ≡ length (texts_due (to_choice choice) frames.now) }
 {
-    let mut at = 0;
     let mut bytes = 0;
-    // kept: where the next frame starts is known only once this one is read.
-    while let Some(frame) = frame_at(frames, at) {
+    for frame in Frames::new(frames) {
         bytes += text_size(&frame, choice);
-        at = frame.end;
     }
     bytes
 }

@@ -1,8 +1,9 @@
 // The frames of a buffer: two four-byte lengths, source, image.
-ghost use Rattle.std.specs.Prelude.{◌≡◌, ◌≤◌, ◌<◌, length, MatchOption};
+ghost use Rattle.std.specs.Prelude.{◌≡◌, ◌-◌, ◌<◌, length, MatchOption};
+ghost use Rattle.std.specs.Iterator.{at_most};
 ghost use Rattle.refusals.specs.Reasons.{answer_of};
 ghost use Rattle.batch.specs.Batch.{frame_end, all_saves};
-ghost use Rattle.batch.specs.Whole.{frames_by, IsFrame};
+ghost use Rattle.batch.specs.Whole.{frames_by, IsFrame, GivesFrame};
 
 use image::bytes::num32;
 use refusals::{Reason, Refused};
@@ -23,12 +24,40 @@ pub(crate) struct Frame<'a> {
     pub(crate) end: usize,
 }
 
+// The frames of a buffer from a place on, up to the first that runs past the end.
+#[derive(Drop)]
+pub(crate) struct Frames<'a> {
+    frames: &'a [u8],
+    at: usize,
+}
+
+impl<'a> Frames<'a> {
+    pub(crate) fn new(frames: &'a [u8]) -> Self
+        ensures { (result.frames.now ≡ frames.now) × (result.at ≡ 0) }
+    {
+        Self { frames, at: 0 }
+    }
+}
+
+impl<'a> Iterator for Frames<'a> {
+    type Item = Frame<'a>;
+
+    ghost next_gives = { GivesFrame };
+
+    ghost remaining = { λ s. at_most (length s.frames.now - s.at) };
+
+    fn next(&mut self) -> Option<Frame<'a>> {
+        let frame = frame_at(self.frames, self.at)?;
+        self.at = frame.end;
+        Some(frame)
+    }
+}
+
 // The frame at `at`, if it ends in the buffer.
-pub(crate) fn frame_at(frames: &[u8], at: usize) -> Option<Frame<'_>>
-    requires { at ≤ length frames.now }
+fn frame_at(frames: &[u8], at: usize) -> Option<Frame<'_>>
     ensures { MatchOption result (length frames.now < frame_end frames.now at) (IsFrame frames.now at) }
 {
-    if frames.len() - at < HEAD {
+    if frames.len() < HEAD || frames.len() - HEAD < at {
         return None;
     }
     let source = at + HEAD;
@@ -51,17 +80,15 @@ pub(crate) fn count_frames(frames: &[u8]) -> Result<usize, Refused>
 {
     let mut at = 0;
     let mut files = 0;
-    // kept: where the next frame starts is known only once this one is read; an iterator would have to prove by itself what each loop over frames
-    // says of all of them.
-    while at < frames.len() {
+    for frame in Frames::new(frames) {
         if files == MAX_SAVES {
             return Err(Reason::Frames.at(at));
         }
-        let Some(frame) = frame_at(frames, at) else {
-            return Err(Reason::Frames.at(at));
-        };
         at = frame.end;
         files += 1;
+    }
+    if at < frames.len() {
+        return Err(Reason::Frames.at(at));
     }
     Ok(files)
 }

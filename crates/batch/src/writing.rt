@@ -4,14 +4,14 @@ ghost use Rattle.std.proofs.lemmas.List.Edits.{sets};
 ghost use Rattle.file.specs.Whole.{to_choice};
 ghost use Rattle.batch.specs.Whole.{saved, text_of, cells, Small, Saved, Room, Written};
 
-use crate::frames::{Frame, frame_at};
+use crate::frames::{Frame, Frames};
 use file::{FileChoice, format_file};
 
 // Three numbers a file.
 pub(crate) const CELLS: usize = 3;
 
 // The refusal's number or 0, its place or 0, the bytes of the text.
-// kept: the table's cells are these numbers, so that a row is what is stored and no answer to be told apart.
+// kept: three numbers and no Result: C reads them so from the table that it lends, number 0 where there is a text.
 #[derive(Clone, Copy, Debug, PartialEq, Eq)]
 pub(crate) struct Row {
     number: u8,
@@ -54,15 +54,14 @@ pub(crate) fn write_saves(frames: &[u8], table: &mut [u32], out: &mut [u8], choi
     requires { Room (to_choice choice) frames.now table.old out.old }
     ensures { Written (to_choice choice) frames.now table.old out.old table.new out.new }
 {
-    let mut at = 0;
+    // kept: two numbers that go on beside the loop: a value of table, output and both would have this loop as its one user, and be taken apart
+    // here.
     let mut cell = 0;
     let mut text = 0;
-    // kept: where the next frame starts is known only once this one is read.
-    while let Some(frame) = frame_at(frames, at) {
+    for frame in Frames::new(frames) {
         let row = write_text(&frame, &mut out[text..], choice);
         write_row(table, cell, row);
         text += row.bytes;
         cell += CELLS;
-        at = frame.end;
     }
 }

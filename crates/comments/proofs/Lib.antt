@@ -3,3 +3,4 @@ pub mod Amounts
 pub mod Bounds
 pub mod Fronts
 pub mod Pops
+pub mod Offsets

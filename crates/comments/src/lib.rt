@@ -1,7 +1,7 @@
 // Comment placing, after `pop_trailing_comment`, `pop_whitespace`, `newlines` and `ignore_newlines` of fmt.rs. The comments are in the
 // image, and the cursor says how many of them are placed.
-// kept: each function has what it changes, what it reads, and up to where: the Rust's `self`, which has both, and its `position`. Both in one
-// struct would have each call say again that what it reads is what it was.
+// kept: `state` is what a function changes, `parsed` what it reads, `position` how far it goes. With both in one struct, as in the Rust's
+// `self`, each promise would also have to say that `parsed` is unchanged.
 #![tactic(auto)]
 
 ghost use Rattle.std.specs.Prelude.{◌≡◌, cond, ◌≤◌, length, Some};
@@ -15,6 +15,8 @@ ghost use Rattle.comments.specs.Parsed.{given_by};
 
 pub mod parsed;
 mod reading;
+pub mod record;
+pub mod records;
 
 use crate::parsed::Parsed;
 use crate::reading::Reading;
@@ -74,7 +76,7 @@ impl Kept {
 
 // The white space before something: the newlines that were counted last, with the place of the last of them, and whether they come after
 // comments that keep them.
-// kept: there are newlines to tell of whether the flag is set or not, so that no Option has them.
+// kept: request 1 (docs/notes/01) has the newlines and their place handed on, whether the flag is set or not: so no Option has them.
 #[derive(Clone, Copy, Debug, PartialEq, Eq)]
 pub struct Gap {
     pub newlines: Newlines,
@@ -106,7 +108,7 @@ fn push_comment(state: &mut State<'_>, parsed: &Parsed<'_>, comment: Waiting)
 }
 
 // A line for one newline, an empty line for more. Where the last of them is doesn't matter here.
-// kept: a choice by a count that was just made, as in the Rust: no step stands behind it that a caller could lend.
+// kept: a match on a count, as in the Rust; no caller has a step that it could pass as a closure.
 fn break_line(state: &mut State<'_>, n: Newlines)
     requires { Room (break_line n) state.old.cursor }
     ensures { Does (break_line n) state.old state.new }
@@ -134,6 +136,7 @@ fn newlines(state: &mut State<'_>, parsed: &Parsed<'_>, position: u32) -> Newlin
 }
 
 // Goes to the position, or to the comment at the front where that starts before it.
+// kept: an Option taken apart, and no choice of a step.
 fn ignore_newlines(state: &mut State<'_>, parsed: &Parsed<'_>, position: u32)
     ensures { Does (ignore_newlines (given_by parsed.now) position) state.old state.new }
 {
@@ -144,6 +147,7 @@ fn ignore_newlines(state: &mut State<'_>, parsed: &Parsed<'_>, position: u32)
 }
 
 // The newlines before a comment, which are kept or not.
+// kept: the flag is the Rust's `preserve_leading_whitespace`, which its loop sets after each comment, so that no caller can lend the step.
 fn before_comment(state: &mut State<'_>, parsed: &Parsed<'_>, leading: bool, start: u32)
     requires { Room (cond leading (step_alone (newlines (given_by parsed.now) start)) (ignore_newlines (given_by parsed.now) start)) state.old.cursor }
     ensures { Does (cond leading (step_alone (newlines (given_by parsed.now) start)) (ignore_newlines (given_by parsed.now) start)) state.old state.new }

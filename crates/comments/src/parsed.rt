@@ -6,6 +6,7 @@ ghost use Rattle.comments.specs.Listed.{Listed, pending_of};
 
 use crate::Waiting;
 use image::bytes::{num16, num32};
+use image::sizes::{HEADER, PAIR, PAIRS};
 
 /// A source with its image, whose comments lie in the source.
 #[derive(Clone, Copy)]
@@ -22,8 +23,8 @@ impl Parsed<'_> {
     {
         let image = self.image;
         let k = placed as usize;
-        if k < num16(image, 5) {
-            let at = 7 + 8 * k;
+        if k < num16(image, HEADER) {
+            let at = PAIRS + PAIR * k;
             let start = num32(image, at) as u32;
             let end = num32(image, at + 4) as u32;
             return Some(Waiting { start, end });

@@ -86,7 +86,8 @@ more : (n : ℕ) (ns ms : List ℕ) → is_one_of n ns ≡ true → is_one_of n 
 more n [] ms e = let z : ◌≡◌ {A = ℕ} 0 1 = cc in absurd (omega arith)
 more n (k ∷ ns) ms e = go (eqb n k) (more n ns ms) e
   where
-    go : (t : Bool) → (is_one_of n ns ≡ true → is_one_of n (ns ++ ms) ≡ true) → (t || is_one_of n ns) ≡ true → (t || is_one_of n (ns ++ ms)) ≡ true
+    go : (t : Bool) → (is_one_of n ns ≡ true → is_one_of n (ns ++ ms) ≡ true) → (t || is_one_of n ns) ≡ true
+        → (t || is_one_of n (ns ++ ms)) ≡ true
     go true later f = refl
     go false later f = later f
 
@@ -105,7 +106,8 @@ module _ (s b : List ℕ) where
       → Under layout_numbers ((rules_of s b).layout_refusal q z store)
   layout_under q z store =
       let needed = cut.rows_needed (parts_of s b) q z in
-      let read : Under layout_numbers (read_refusal (read_all s b)) = under_more reader_numbers (12 ∷ 8 ∷ []) (read_refusal (read_all s b)) (read_under s b) in
+      let read : Under layout_numbers (read_refusal (read_all s b)) =
+      under_more reader_numbers (12 ∷ 8 ∷ []) (read_refusal (read_all s b)) (read_under s b) in
       under_first layout_numbers (cut.layout_table (parts_of s b) q z store) (
         read,
         (
@@ -220,7 +222,8 @@ layout_call s b state args store r store2 p =
 render_call : RenderAnswered
 render_call s b state args store marks out r store2 marks2 out2 p =
     answered
-    (as_answer _ r ∙ ap refusal_of p.answer ∙ by_table ((rules_of s b).render_refusal (render.to_args args (length out)) (render.to_state state) store marks) _)
+    (as_answer _ r ∙ ap refusal_of p.answer ∙ by_table ((rules_of s b).render_refusal (render.to_args args (length out))
+    (render.to_state state) store marks) _)
     (render_under s b (render.to_args args (length out)) (render.to_state state) store marks)
     (λ r f. (p.store_left_of, p.marks_left_of ∙ left_same _ r marks _ f, p.output_left_of ∙ left_same _ r out _ f))
 

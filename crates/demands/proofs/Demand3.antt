@@ -85,7 +85,8 @@ held_as_due s b store₀ marks₀ calls v e rule = record {
 
 -- calls that keep their promises make the run of the rules
 pub made_run : (s b store₀ marks₀ : List ℕ) (made : List Made) → AllKept after_made (Promised s b) (fresh_caller store₀ marks₀) made
-    → held s b (after_all after_made (fresh_caller store₀ marks₀) made) ≡ run (rules_of s b) (start (rules_of s b) store₀ marks₀) (map (call_made s b) made)
+    → held s b (after_all after_made (fresh_caller store₀ marks₀) made) ≡ run (rules_of s b) (start (rules_of s b) store₀ marks₀)
+    (map (call_made s b) made)
 made_run s b store₀ marks₀ made p =
     all_held (rules_of s b) after_made (Promised s b) (held s b) (call_made s b) (one_held s b) (fresh_caller store₀ marks₀) made p
 

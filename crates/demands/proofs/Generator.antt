@@ -66,7 +66,8 @@ record Front (o : Option Refusal) (ws : List ℕ) (n : ℕ) (out2 : List ℕ) : 
   pub count : n ≡ length ws
   pub bytes : take n out2 ≡ ws
 
-front : (o : Option Refusal) (ws out : List ℕ) (n : ℕ) (out2 : List ℕ) → accepted n ≡ answer_by o (length ws) → out2 ≡ unless o out (sets out 0 ws)
+front : (o : Option Refusal) (ws out : List ℕ) (n : ℕ) (out2 : List ℕ) → accepted n ≡ answer_by o (length ws)
+    → out2 ≡ unless o out (sets out 0 ws)
     → (o ≡ None → length ws ≤ length out)
     → Front o ws n out2
 front o ws out n out2 e f fits =

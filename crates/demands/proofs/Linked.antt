@@ -88,7 +88,8 @@ named (k ∷ ns) h n e =
     let test : Bool = eqb (number_of (reason_of k)) k in
     go (eqb-true (number_of (reason_of k)) k (and_left test (all_named ns) h)) (named ns (and_right test (all_named ns) h) n) (eqb n k) refl e
   where
-    go : number_of (reason_of k) ≡ k → (is_one_of n ns ≡ true → number_of (reason_of n) ≡ n) → (t : Bool) → eqb n k ≡ t → (t || is_one_of n ns) ≡ true
+    go : number_of (reason_of k) ≡ k → (is_one_of n ns ≡ true → number_of (reason_of n) ≡ n) → (t : Bool) → eqb n k ≡ t
+        → (t || is_one_of n ns) ≡ true
         → number_of (reason_of n) ≡ n
     go here later true f g = rw (eqb-true n k f) here
     go here later false f g = later g
@@ -112,7 +113,8 @@ record Reads {X A : Type 0} (answer : X → Answer A) (from : List ℕ → X) (t
   pub given : (rest : List ℕ) → answer (from ((0 ∷ told a) ++ rest)) ≡ accepted a
 
 -- so the numbers of an answer by a table tell that answer
-read_back : {X A : Type 0} (answer : X → Answer A) (from : List ℕ → X) (told : A → List ℕ) (ns : List ℕ) (o : Option Refusal) (a : A) (out out2 : List ℕ)
+read_back : {X A : Type 0} (answer : X → Answer A) (from : List ℕ → X) (told : A → List ℕ) (ns : List ℕ) (o : Option Refusal) (a : A)
+    (out out2 : List ℕ)
     → is_one_of 0 ns ≡ false
     → all_named ns ≡ true
     → Under ns o
@@ -281,7 +283,8 @@ linked_promises = record {
   steps =
       λ s b output out output2 out2 h p.
       let o = steps_of_refusal s b (length output) in (
-        read_back (answer_of (λ (n : ℕ). n)) wrote_from told_bytes steps_numbers o (length (steps_due s b)) out out2 refl refl (list_under s b (length output))
+        read_back (answer_of (λ (n : ℕ). n)) wrote_from told_bytes steps_numbers o (length (steps_due s b)) out out2 refl refl
+            (list_under s b (length output))
             (omega arith)
             (omega arith)
             (wrote_reads (length (steps_due s b)))
@@ -370,7 +373,8 @@ linked_1 = record {
 }
 
 -- ---- demand 2: where 0 is first, the answer is the accepted one
-pub linked_layout : (s b store state args out store2 out2 : List ℕ) → length out ≡ 10 → Lays s b store state args out store2 out2 → get_or out2 0 0 ≡ 0
+pub linked_layout : (s b store state args out store2 out2 : List ℕ) → length out ≡ 10 → Lays s b store state args out store2 out2
+    → get_or out2 0 0 ≡ 0
     → LayoutCalled s b (layout_state state) (layout_args args) store
     (Ok (record { state = layout_state (take 8 (drop 2 out2)); left = get_or out2 1 0 })) store2
 linked_layout s b store state args out store2 out2 h p e =
@@ -390,7 +394,8 @@ linked_render s b store marks output state args out store2 marks2 output2 out2 h
     (from_accepted _ out2 e)
     (linked_promises.render s b store marks output state args out store2 marks2 output2 out2 h p)
 
-pub linked_file : (s b choice output out output2 out2 : List ℕ) → length out ≡ 5 → FormatsFile s b choice output out output2 out2 → get_or out2 0 0 ≡ 0
+pub linked_file : (s b choice output out output2 out2 : List ℕ) → length out ≡ 5 → FormatsFile s b choice output out output2 out2
+    → get_or out2 0 0 ≡ 0
     → Formats s b (to_choice (file_choice choice)) output
     (Ok (record { bytes = record { 0 = get_or out2 1 0 }; left = get_or out2 2 0; rows = get_or out2 3 0; numbers = get_or out2 4 0 }))
     output2
@@ -398,7 +403,8 @@ linked_file s b choice output out output2 out2 h p e =
     subst (λ (r : Result Text Refused). Formats s b (to_choice (file_choice choice)) output r output2) (from_accepted _ out2 e)
     (linked_promises.format s b choice output out output2 out2 h p)
 
-pub linked_batch : (f choice table output out table2 output2 out2 : List ℕ) → length out ≡ 3 → FormatsBatch f choice table output out table2 output2 out2
+pub linked_batch : (f choice table output out table2 output2 out2 : List ℕ) → length out ≡ 3
+    → FormatsBatch f choice table output out table2 output2 out2
     → get_or out2 0 0 ≡ 0
     → Batches f (to_choice (file_choice choice)) table output (Ok (record { files = get_or out2 1 0; bytes = get_or out2 2 0 })) table2 output2
 linked_batch f choice table output out table2 output2 out2 h p e =
@@ -535,11 +541,13 @@ module _ (s b : List ℕ) where
     linked_cut h =
         let R = rules_of s b in
         let d =
-        demand_3 s b store₀ marks₀ made_calls kept_all (subst (λ (cs : List (Call R)). AllReadLaid R (start R store₀ marks₀) cs) (sym (same_calls calls)) h)
+        demand_3 s b store₀ marks₀ made_calls kept_all (subst (λ (cs : List (Call R)). AllReadLaid R (start R store₀ marks₀) cs)
+        (sym (same_calls calls)) h)
         in
         record {
           as_due = subst₂ (λ (cs : List (Call R)) (v : Carried R). HeldAsDue s b store₀ marks₀ cs v) (same_calls calls) (sym held_same) d.as_due;
-          answered = sym (same_answers calls) ∙ d.answered ∙ ap (λ (cs : List (Call R)). answers_due R store₀ marks₀ (at_first R) cs) (same_calls calls);
+          answered = sym (same_answers calls) ∙ d.answered ∙ ap (λ (cs : List (Call R)). answers_due R store₀ marks₀ (at_first R) cs)
+              (same_calls calls);
         }
 
     linked_holds : (layout_state (after_all after_linked (fresh_holder store₀ marks₀) calls).layout_state_of).closed ≡ true

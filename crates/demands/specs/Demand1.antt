@@ -79,7 +79,8 @@ LayoutAnswered = (s b : List ℕ) (state : LayoutState) (args : LayoutArgs) (sto
 
 -- `render_call::render_call`
 abbrev pub RenderAnswered : Type 0
-RenderAnswered = (s b : List ℕ) (state : RenderState) (args : RenderArgs) (store marks out : List ℕ) (r : Result Written Refused) (store2 marks2 out2 : List ℕ)
+RenderAnswered = (s b : List ℕ) (state : RenderState) (args : RenderArgs) (store marks out : List ℕ) (r : Result Written Refused)
+    (store2 marks2 out2 : List ℕ)
     → RenderCalled s b state args store marks out r store2 marks2 out2
     → Answered render_numbers ((rules_of s b).render_refusal (render.to_args args (length out)) (render.to_state state) store marks)
     (refusal_in r)

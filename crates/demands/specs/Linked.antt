@@ -2,7 +2,8 @@
 -- `rrufthim_write`, `rrufthim_steps` and `rrufthim_batch`. Their answers and states are arrays of so many numbers. What the numbers of an
 -- answer tell is an answer of the function in Rattle, and that function's promise holds of it (`LinkedPromises`). So the three demands and the
 -- sentences of requests 4, 5 and 7 hold of what is linked. proofs/Linked.antt proves it.
-use Rattle.std.specs.Prelude.{◌≡◌, true, cond, List, [], ◌∷◌, ◌++◌, map, ℕ, eqb, length, get_or, take, drop, replicate, Option, None, Some, Result, Ok, Err}
+use Rattle.std.specs.Prelude.{◌≡◌, true, cond, List, [], ◌∷◌, ◌++◌, map, ℕ, eqb, length, get_or, take, drop, replicate, Option}
+use Rattle.std.specs.Prelude.{None, Some, Result, Ok, Err}
 use Rattle.refusals.specs.Refusals.{Refusal, is_one_of}
 use Rattle.refusals.specs.declared.Reason.{Reason}
 use Rattle.refusals.specs.declared.Reason.TheVariants as reason
@@ -296,7 +297,8 @@ pub record LinkedLists : Type 0 where
 -- "The result is that of single calls in the same order", of `rrufthim_batch`, with the answer that its numbers tell
 abbrev pub LinkedSingles : Type 0
 LinkedSingles =
-    (f choice : List ℕ) (ms : List singles.Made) → singles.AllSingle (to_choice (file_choice choice)) ms → map (λ m. m.file) ms ≡ saves_by (all_saves f)
+    (f choice : List ℕ) (ms : List singles.Made) → singles.AllSingle (to_choice (file_choice choice)) ms
+    → map (λ m. m.file) ms ≡ saves_by (all_saves f)
     → (table output out table2 output2 out2 : List ℕ) → length out ≡ 3
     → FormatsBatch f choice table output out table2 output2 out2
     → singles.SameAsSingles f ms table output (batch_from out2) table2 output2

@@ -80,7 +80,8 @@ CallsHold = (s b : List ℕ) (w : Carried (rules_of s b)) → TextKept s b w →
 
 abbrev pub ClosedCallsHoldAll : Type 0
 ClosedCallsHoldAll =
-    (s b : List ℕ) (w : Carried (rules_of s b)) → TextKept s b w → AllRendered s b w → w.layout_state_of.closed ≡ true → w.layout_state_of.mode ≡ NEW_MODE
+    (s b : List ℕ) (w : Carried (rules_of s b)) → TextKept s b w → AllRendered s b w → w.layout_state_of.closed ≡ true
+    → w.layout_state_of.mode ≡ NEW_MODE
     → HoldsFirst s b (length (listed s b)) w.text
 
 -- ---- a batch

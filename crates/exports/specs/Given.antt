@@ -23,7 +23,8 @@ laid_numbers t =
 
 abbrev pub written_numbers : Written → List ℕ
 written_numbers w =
-    w.bytes.0 ∷ w.state.indent ∷ w.state.next_indent ∷ w.state.column.0 ∷ w.state.in_use ∷ w.state.row ∷ w.state.width.0 ∷ []
+    let pen = w.state.pen in
+    w.bytes.0 ∷ pen.indent ∷ pen.next_indent ∷ pen.column.0 ∷ w.state.in_use ∷ w.state.row ∷ w.state.width.0 ∷ []
 
 abbrev pub text_numbers : Text → List ℕ
 text_numbers t = told_file (to_result t)

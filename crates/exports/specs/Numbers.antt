@@ -39,9 +39,7 @@ layout_state l = record {
 
 abbrev pub render_state : List ℕ → RenderState
 render_state l = record {
-  indent = get_or l 0 0;
-  next_indent = get_or l 1 0;
-  column = record { 0 = get_or l 2 0 };
+  pen = record { indent = get_or l 0 0; next_indent = get_or l 1 0; column = record { 0 = get_or l 2 0 } };
   in_use = get_or l 3 0;
   row = get_or l 4 0;
   width = record { 0 = get_or l 5 0 };

@@ -1,4 +1,5 @@
 // Request 5: an image from a list of steps, and the steps of an image.
+// kept: the C interface: C hands over each buffer and array as a parameter of its own.
 ghost use Rattle.exports.specs.Generator.{WritesImage, ListsSteps};
 
 use crate::numbers::{bytes_numbers, put_answer};
@@ -12,7 +13,6 @@ pub fn rrufthim_write_s1(steps: &[u8], output: &mut [u8], out: &mut [u64; 2])
 }
 
 // Writes the steps of an image to the start of the output. `out` gets the refusal's number and place, or 0 and the bytes of the steps.
-// kept: C lends what is lent one by one.
 pub fn rrufthim_steps_s1(source: &[u8], image: &[u8], output: &mut [u8], out: &mut [u64; 2])
     ensures { ListsSteps source.now image.now output.old out.old output.new out.new }
 {

@@ -1,6 +1,7 @@
 // The functions for other languages: numbers and slices in, numbers out. exports_c hands them out under the C calling convention, by the same
 // names: symbols that end in the number of their shape. tools/raise-shape raises it when a parameter or an array changes, so that nothing older
 // is linked.
+// kept: the C interface: C hands over each buffer and array as a parameter of its own.
 #![tactic(auto)]
 
 pub mod generator;
@@ -68,7 +69,6 @@ pub fn rrufthim_layout_s1(
 
 // A rendering call. The state: indent, next indent, column, marks in use, next row, width. The arguments: the row to stop before, and the
 // width. `out` gets the refusal's number and place, or 0, the bytes written and the new state.
-// kept: C lends what is lent one by one.
 pub fn rrufthim_render_s1(
     source: &[u8],
     image: &[u8],
@@ -89,7 +89,6 @@ pub fn rrufthim_render_s1(
 
 // The run of one file: all is laid out and rendered, in rows and marks of its own. The choice: the width and the mode. `out` gets the refusal's
 // number and place, or 0, the bytes written, the comments left, the rows and the group numbers.
-// kept: C lends what is lent one by one.
 pub fn rrufthim_format_s1(
     source: &[u8],
     image: &[u8],

@@ -1,4 +1,5 @@
 // Numbers in and out of the arrays that the exported functions are lent.
+// kept: functions and no `From`: the types are of crates below, which know nothing of C's arrays.
 ghost use Rattle.std.specs.Prelude.{◌≡◌, ◌<◌, [], ◌∷◌, length};
 ghost use Rattle.refusals.specs.Answers.{numbers_of};
 ghost use Rattle.refusals.specs.Reasons.{answer_of};
@@ -11,6 +12,7 @@ use file::{FileChoice, Text};
 use layout_call::{Laid, LayoutArgs, LayoutState};
 use refusals::Refused;
 use render_call::{RenderArgs, RenderState, Written};
+use renderer_rules::Pen;
 use rows::units::Columns;
 use tallies::{Figures, Tallies};
 
@@ -44,9 +46,11 @@ pub(crate) fn render_state(from: &[u64; 6]) -> RenderState
     ensures { result ≡ render_state from.now }
 {
     RenderState {
-        indent: from[0] as usize,
-        next_indent: from[1] as usize,
-        column: Columns(from[2] as usize),
+        pen: Pen {
+            indent: from[0] as usize,
+            next_indent: from[1] as usize,
+            column: Columns(from[2] as usize),
+        },
         in_use: from[3] as usize,
         row: from[4] as usize,
         width: Columns(from[5] as usize),
@@ -132,9 +136,9 @@ pub(crate) fn written_numbers(written: Written) -> [u64; 7]
     let state = written.state;
     [
         written.bytes.0 as u64,
-        state.indent as u64,
-        state.next_indent as u64,
-        state.column.0 as u64,
+        state.pen.indent as u64,
+        state.pen.next_indent as u64,
+        state.pen.column.0 as u64,
         state.in_use as u64,
         state.row as u64,
         state.width.0 as u64,

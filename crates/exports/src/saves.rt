@@ -1,4 +1,5 @@
 // Request 7: a night's saves in one call.
+// kept: the C interface: C hands over each buffer and array as a parameter of its own.
 ghost use Rattle.exports.specs.Saves.{FormatsBatch};
 
 use crate::numbers::{batch_numbers, file_choice, put_answer};

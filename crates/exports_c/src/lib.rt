@@ -1,5 +1,6 @@
 // The functions of `exports` under the C calling convention: each calls the one of its name and promises the same. What the arguments are stands
 // there. The archive that is built of this crate is what other languages link.
+// kept: the C interface: C hands over each buffer and array as a parameter of its own.
 #![tactic(auto)]
 
 ghost use Rattle.std.specs.Prelude.{◌≡◌};
@@ -31,7 +32,6 @@ pub extern "C" fn rrufthim_layout_s1(
     exports::rrufthim_layout_s1(source, image, store, state, args, out);
 }
 
-// kept: C lends what is lent one by one.
 #[unsafe(no_mangle)]
 pub extern "C" fn rrufthim_render_s1(
     source: &[u8],
@@ -48,7 +48,6 @@ pub extern "C" fn rrufthim_render_s1(
     exports::rrufthim_render_s1(source, image, store, marks, output, state, args, out);
 }
 
-// kept: C lends what is lent one by one.
 #[unsafe(no_mangle)]
 pub extern "C" fn rrufthim_format_s1(
     source: &[u8],
@@ -88,7 +87,6 @@ pub extern "C" fn rrufthim_write_s1(steps: &[u8], output: &mut [u8], out: &mut [
     exports::generator::rrufthim_write_s1(steps, output, out);
 }
 
-// kept: C lends what is lent one by one.
 #[unsafe(no_mangle)]
 pub extern "C" fn rrufthim_steps_s1(
     source: &[u8],

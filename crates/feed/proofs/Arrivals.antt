@@ -15,7 +15,8 @@ whole_after before asked n (Ok k) a e = let same : before + k ≡ n = cc in omeg
 whole_after before asked n (Err d) a e = cc
 
 -- where the input ends inside a part, it does so behind what came before
-pub cut_after : (before asked : ℕ) (r : Result ℕ Cut) (c : Cut) → Arrives asked r → after before r ≡ Err c → (before ≤ c.bytes) × (c.bytes < before + asked)
+pub cut_after : (before asked : ℕ) (r : Result ℕ Cut) (c : Cut) → Arrives asked r → after before r ≡ Err c
+    → (before ≤ c.bytes) × (c.bytes < before + asked)
 cut_after before asked (Ok n) c a e = cc
 cut_after before asked (Err d) c a e =
     let same : ◌≡◌ {A = Cut} (record { bytes = before + d.bytes }) c = cc in
@@ -28,6 +29,7 @@ module _ (lengths : List ℕ) where
   reads_cut c some short =
       record { bytes = c.bytes; within = omega arith; came = rw (ne_eqb c.bytes 0 (λ e. omega arith), lt-ltb c.bytes (frame_size lengths) short) }
 
-  pub cut_passed : (r : Result (Option ℕ) Cut) (c : Cut) → IsErrAnd r (λ x. x ≡ c) → 0 < c.bytes → c.bytes < frame_size lengths → ReadsFile lengths r
+  pub cut_passed : (r : Result (Option ℕ) Cut) (c : Cut) → IsErrAnd r (λ x. x ≡ c) → 0 < c.bytes → c.bytes < frame_size lengths
+      → ReadsFile lengths r
   cut_passed (Ok x) c h some short = absurd h
   cut_passed (Err x) c h some short = rw h (reads_cut c some short)

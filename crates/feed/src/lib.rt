@@ -6,6 +6,7 @@ ghost use Rattle.feed.specs.Input.{source_length, image_length, came, after, Arr
 
 use image::bytes::num32;
 use image::limits::{MAX_BODY, MAX_SOURCE};
+use image::sizes::HEADER;
 use input::read_full;
 use std::io;
 
@@ -15,9 +16,6 @@ use std::io;
 pub const SOURCE_KEPT: usize = MAX_SOURCE + 1;
 
 pub const IMAGE_KEPT: usize = HEADER + MAX_BODY + 1;
-
-// An image's version and the length of its body.
-const HEADER: usize = 5;
 
 // The two lengths, and where each stands.
 pub const LENGTHS: usize = 8;
@@ -60,7 +58,7 @@ fn read_front<R: io::Read>(input: &mut R, b: &mut [u8]) -> Result<usize, Cut>
 }
 
 // Reads bytes that are not kept.
-// kept: the pieces are of two sizes and each may fail; steps over a range would need the last one's size besides.
+// kept: a loop: all pieces but the last have the same size, and each may fail; a range would leave the last to be read behind it.
 fn pass_over<R: io::Read>(input: &mut R, n: usize) -> Result<usize, Cut>
     ensures { Arrives n result }
 {

@@ -35,7 +35,8 @@ module _ (frame out : List ℕ) (full : length out ≡ 65536) where
   table_same : table ≡ program_refusal frame
   table_same = ap (λ (n : ℕ). frame_table frame n) full
 
-  pub replied_text : (a : Result Text Refused) (out2 : List ℕ) (t : Text) → FormatsFrame frame out a out2 → a ≡ Ok t → Replies frame out t.bytes.0 out2
+  pub replied_text : (a : Result Text Refused) (out2 : List ℕ) (t : Text) → FormatsFrame frame out a out2 → a ≡ Ok t
+      → Replies frame out t.bytes.0 out2
   unfolding reply
   replied_text a out2 u f e =
       let t = accepted_by table _ (file_result s b reference_choice) (ap formatted_answer (sym e) ∙ f.answer) in

@@ -230,7 +230,8 @@ module _ (s b : List ℕ) (c : FileChoice) where
           pub drawn_refused : (why : Refused) → o ≡ Err why → RunsFile s b c store marks out (Err why) store3 marks2 out2
           drawn_refused why e =
               let r : table ≡ Some (refusal why) =
-              refused_by table _ (refusal why) (ap (λ (x : Result Drawn Refused). renders.rendering_answer s b (renders.rendering_of x)) (sym e) ∙ drawn_answer)
+              refused_by table _ (refusal why) (ap (λ (x : Result Drawn Refused). renders.rendering_answer s b (renders.rendering_of x)) (sym e)
+              ∙ drawn_answer)
               in
               record {
                 answer = sym (ap (λ (x : Option Refusal). answer_by x (file_result s b c)) r);

@@ -16,8 +16,9 @@ use layout_call::modes::{NEW_MODE, OLD_MODE};
 use layout_call::steps::count_declarations;
 use layout_call::{LayoutArgs, LayoutState, layout_accepted};
 use refusals::{Reason, Refused};
+use render_call::call::Call;
 use render_call::width::width_fits;
-use render_call::{RenderArgs, RenderState, render_checked};
+use render_call::{RenderArgs, RenderState};
 use rows::places::PLACES;
 use rows::units::{Bytes, Columns};
 
@@ -67,14 +68,7 @@ pub struct Run {
 pub fn render_fresh() -> RenderState
     ensures { rendered_state result ≡ render_fresh }
 {
-    RenderState {
-        indent: 0,
-        next_indent: 0,
-        column: Columns(0),
-        in_use: 0,
-        row: 0,
-        width: Columns(0),
-    }
+    RenderState::default()
 }
 
 // The places of its rows.
@@ -100,7 +94,8 @@ pub fn run_file(
     out: &mut [u8],
     choice: FileChoice,
 ) -> Result<Run, Refused>
-    ensures { RunsFile file.entry.parsed.source.now file.entry.parsed.image.now (to_choice choice) store.old marks.old out.old result store.new marks.new out.new }
+    ensures { RunsFile file.entry.parsed.source.now file.entry.parsed.image.now (to_choice choice)
+        store.old marks.old out.old result store.new marks.new out.new }
 {
     if NEW_MODE < choice.mode {
         return Err(Reason::State.at(0));
@@ -114,20 +109,17 @@ pub fn run_file(
         mode: choice.mode,
     };
     let laid = layout_accepted(file, store, LayoutState::default(), all)?;
-    let to = RenderArgs {
-        stop: laid.state.row,
-        width: choice.width,
+    // kept: field by field: a `Call` of rendering takes any source and image, as C lends them, and no `Accepted`.
+    let call = Call {
+        source: file.parsed.source,
+        image: file.parsed.image,
+        state: render_fresh(),
+        args: RenderArgs {
+            stop: laid.state.row,
+            width: choice.width,
+        },
     };
-    let fresh = render_fresh();
-    let drawn = render_checked(
-        file.parsed.source,
-        file.parsed.image,
-        store,
-        marks,
-        out,
-        fresh,
-        to,
-    )?;
+    let drawn = call.render_checked(store, marks, out)?;
     Ok(Run {
         text: Text {
             bytes: drawn.written.bytes,

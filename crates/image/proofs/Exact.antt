@@ -63,7 +63,8 @@ four b at small h =
     )
     in
     ap (λ (k : ℕ). take k (drop at b)) n ∙ e
-    ∙ sym (digits (get_or b at 0) (get_or b (at + 1) 0) (get_or b (at + 2) 0) (get_or b (at + 3) 0) (small at) (small (at + 1)) (small (at + 2)) (small (at + 3)))
+    ∙ sym (digits (get_or b at 0) (get_or b (at + 1) 0) (get_or b (at + 2) 0) (get_or b (at + 3) 0)
+    (small at) (small (at + 1)) (small (at + 2)) (small (at + 3)))
 
 single : (b : List ℕ) (at : ℕ) → at < length b → part at (at + 1) b ≡ get_or b at 0 ∷ []
 single b at h =
@@ -104,16 +105,20 @@ Right b one =
     (p at stop : ℕ) (t : Tree) (q : ℕ) → at ≤ stop → stop ≤ length b → one p at stop ≡ got t q
     → (part at q b ≡ written (plain b t)) × (at ≤ q) × (q ≤ stop)
 
-children_exact : (b : List ℕ) (one : ℕ → ℕ → ℕ → Read Tree) → Right b one → (n row at stop : ℕ) (ts : Trees) (e : ℕ) → at ≤ stop → stop ≤ length b
+children_exact : (b : List ℕ) (one : ℕ → ℕ → ℕ → Read Tree) → Right b one → (n row at stop : ℕ) (ts : Trees) (e : ℕ)
+    → at ≤ stop → stop ≤ length b
     → children_at one n row at stop ≡ got ts e → part at stop b ≡ writtens (plains b ts)
 unfolding children_at written plain
 children_exact b one f zero row at stop ts e le l h = absurd (false≢true (ap is_got h))
 children_exact b one f (suc n) row at stop ts e le l h = go (ltb at stop) (eqb row 0) (complete row) refl (children_exact b one f n (after row)) h
   where
     IH : Type 0
-    IH = (a z : ℕ) (us : Trees) (k : ℕ) → a ≤ z → z ≤ length b → children_at one n (after row) a z ≡ got us k → part a z b ≡ writtens (plains b us)
+    IH =
+        (a z : ℕ) (us : Trees) (k : ℕ) → a ≤ z → z ≤ length b → children_at one n (after row) a z ≡ got us k
+        → part a z b ≡ writtens (plains b us)
 
-    tails : (t : Tree) (k : ℕ) → part at k b ≡ written (plain b t) → at ≤ k → k ≤ stop → IH → (x : Read Trees) → children_at one n (after row) k stop ≡ x
+    tails : (t : Tree) (k : ℕ) → part at k b ≡ written (plain b t) → at ≤ k → k ≤ stop → IH → (x : Read Trees)
+        → children_at one n (after row) k stop ≡ x
         → bind x (λ us end. got (t ▸ us) end) ≡ got ts e → part at stop b ≡ writtens (plains b ts)
     tails t k here p q g (got us m) o h =
         let c : t ▸ us ≡ ts = cc in
@@ -121,7 +126,8 @@ children_exact b one f (suc n) row at stop ts e le l h = go (ltb at stop) (eqb r
     tails t k here p q g (bad m z) o h = absurd (false≢true (ap is_got h))
 
     heads : IH → (x : Read Tree) → one (place row) at stop ≡ x
-        → bind x (λ t next. bind (children_at one n (after row) next stop) (λ us end. got (t ▸ us) end)) ≡ got ts e → part at stop b ≡ writtens (plains b ts)
+        → bind x (λ t next. bind (children_at one n (after row) next stop) (λ us end. got (t ▸ us) end)) ≡ got ts e
+        → part at stop b ≡ writtens (plains b ts)
     heads g (got t k) o h =
         let r = f (place row) at stop t k le l o in
         tails t k r.0 r.1 r.2 g (children_at one n (after row) k stop) refl h
@@ -159,7 +165,8 @@ child_exact b small one f p at stop t q le l h = go (skips b p at stop) refl h
     go false k h = f (bare p) at stop t q le l h
 
 -- the bytes of what was read are those that its tree is written as
-pub exact : (s b : List ℕ) → Small b → (v left p at end : ℕ) (t : Tree) (q : ℕ) → at ≤ end → end ≤ length b → record_at s b v left p at end ≡ got t q
+pub exact : (s b : List ℕ) → Small b → (v left p at end : ℕ) (t : Tree) (q : ℕ) → at ≤ end → end ≤ length b
+    → record_at s b v left p at end ≡ got t q
     → part at q b ≡ written (plain b t)
 unfolding written plain
 exact s b small v zero p at end t q le l h = absurd (none_deep s b v p at end t q h)
@@ -180,7 +187,8 @@ exact s b small v (suc left) p at end t q le l h =
     ∙ ap (λ (u : Tree). written (plain b u)) (sym i.is)
 
 -- an accepted image ends with the bytes that its tree is written as
-pub tree_exact : (ordered : Bool) (s b : List ℕ) (n at : ℕ) → Small b → (r : Root ordered s b n at) → part at (length b) b ≡ written (plain b r.tree)
+pub tree_exact : (ordered : Bool) (s b : List ℕ) (n at : ℕ) → Small b → (r : Root ordered s b n at)
+    → part at (length b) b ≡ written (plain b r.tree)
 unfolding tree_at
 tree_exact ordered s b n at small r =
     let h = r.list.within in

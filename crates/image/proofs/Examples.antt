@@ -39,8 +39,9 @@ right n at = accepted (record { comments = n; tree = at })
 -- ---- document 01's worked input, and the same with version 2
 shebang : List ℕ
 shebang =
-    0x00 ∷ 0x00 ∷ 0x00 ∷ 0x22 ∷ 0x00 ∷ 0x00 ∷ 0x00 ∷ 0x00 ∷ 0x00 ∷ 0x1C ∷ 0x01 ∷ 0x00 ∷ 0x00 ∷ 0x00 ∷ 0x00 ∷ 0x00 ∷ 0x00 ∷ 0x00 ∷ 0x00 ∷ 0x00 ∷
-    0x00 ∷ 0x00 ∷ 0x0F ∷ 0x02 ∷ 0x00 ∷ 0x00 ∷ 0x00 ∷ 0x00 ∷ 0x00 ∷ 0x00 ∷ 0x00 ∷ 0x00 ∷ 0x00 ∷ 0x04 ∷ 0x23 ∷ 0x21 ∷ 0x2F ∷ 0x78 ∷ []
+    0x00 ∷ 0x00 ∷ 0x00 ∷ 0x22 ∷ 0x00 ∷ 0x00 ∷ 0x00 ∷ 0x00 ∷ 0x00 ∷ 0x1C ∷ 0x01 ∷ 0x00 ∷ 0x00 ∷
+    0x00 ∷ 0x00 ∷ 0x00 ∷ 0x00 ∷ 0x00 ∷ 0x00 ∷ 0x00 ∷ 0x00 ∷ 0x00 ∷ 0x0F ∷ 0x02 ∷ 0x00 ∷ 0x00 ∷
+    0x00 ∷ 0x00 ∷ 0x00 ∷ 0x00 ∷ 0x00 ∷ 0x00 ∷ 0x00 ∷ 0x04 ∷ 0x23 ∷ 0x21 ∷ 0x2F ∷ 0x78 ∷ []
 
 worked : List Example
 worked = reads [] (0x01 ∷ shebang) (right 0 7) ∷ reads [] (0x02 ∷ shebang) (wrong 3 0) ∷ []
@@ -157,6 +158,7 @@ more =
 
 examples_right : answers (worked ++ more) ≡ due (worked ++ more)
 unfolding worked shebang more image listing pair only tree declares text name constant literal operator assigns joins imports acute abc empty written
-    read_all source_fits well_formed prefix run read_image header comments comments_from comment_fits read_tree tree_at record_at opens shape kind_fits_of payload_fits
-    first_child row_under_of row_of children_at skips be16 be32 is_range boundary within sequence followed row_in
+    read_all source_fits well_formed prefix run read_image header comments comments_from comment_fits
+    read_tree tree_at record_at opens shape kind_fits_of payload_fits first_child row_under_of row_of children_at skips
+    be16 be32 is_range boundary within sequence followed row_in
 examples_right = refl

@@ -74,7 +74,8 @@ any_number one zero row at stop ts e z m h = absurd (false≢true (ap is_got h))
 any_number one (suc n) row at stop ts e z m h = go (ltb at stop) refl (simp (ne_eqb row 0 z, m) at h)
   where
     go : (t : Bool) → ltb at stop ≡ t
-        → cond t (bind (one (place row) at stop) (λ t next. bind (children_at one n row next stop) (λ us end. got (t ▸ us) end))) (got nil stop) ≡ got ts e
+        → cond t (bind (one (place row) at stop) (λ t next. bind (children_at one n row next stop) (λ us end. got (t ▸ us) end)))
+        (got nil stop) ≡ got ts e
         → ((ts ≡ nil) × (stop ≤ at)) ⊎ ((at < stop) × Split one (place row) row at stop ts e)
     go true l h = inr (ltb-true at stop l, split_head one n (place row) row at stop ts e (one (place row) at stop) refl h)
     go false l h = inl ((cc), ltb-false at stop l)
@@ -96,7 +97,8 @@ inner s b v left p at end t q o (got ts k) r f h =
 inner s b v left p at end t q o (bad m k) r f h = absurd (false≢true (ap is_got h))
 
 -- what was read is the record, and its children were read one level down
-pub inside : (s b : List ℕ) (v left p at end : ℕ) (t : Tree) (q : ℕ) → record_at s b v (suc left) p at end ≡ got t q → Inside s b v left p at end t q
+pub inside : (s b : List ℕ) (v left p at end : ℕ) (t : Tree) (q : ℕ) → record_at s b v (suc left) p at end ≡ got t q
+    → Inside s b v left p at end t q
 inside s b v left p at end t q h = go (opens s b v (suc left) p at end) refl
   where
     go : (r : Read Head) → opens s b v (suc left) p at end ≡ r → Inside s b v left p at end t q
@@ -146,7 +148,8 @@ children_more one two f (suc n) row at stop ts e h = go (ltb at stop) (eqb row 0
         rw (f (place row) at stop t k o) (tails t (children_at one n (after row) k stop) (children_at two n (after row) k stop) (g k stop) h)
     heads (bad m k) o g h = absurd (false≢true (ap is_got h))
 
-    go : (t₁ t₂ : Bool) → ((a z : ℕ) (us : Trees) (k : ℕ) → children_at one n (after row) a z ≡ got us k → children_at two n (after row) a z ≡ got us k)
+    go : (t₁ t₂ : Bool)
+        → ((a z : ℕ) (us : Trees) (k : ℕ) → children_at one n (after row) a z ≡ got us k → children_at two n (after row) a z ≡ got us k)
         → cond t₁
         (cond t₂ (bad 4 at) (bind (one (place row) at stop) (λ t next. bind (children_at one n (after row) next stop) (λ us end. got (t ▸ us) end))))
         (cond (complete row) (got nil stop) (bad 4 at))

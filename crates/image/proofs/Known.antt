@@ -24,7 +24,8 @@ numbered_in : (ks : List Kind) (n : ℕ) (k : Kind) → kind_in ks n ≡ Some k 
 numbered_in [] n k e = cc
 numbered_in (x ∷ ks) n k e = go (numbered_in ks n k) (eqb n (kind_number x)) refl e
   where
-    go : (kind_in ks n ≡ Some k → n ≡ kind_number k) → (t : Bool) → eqb n (kind_number x) ≡ t → cond t (Some x) (kind_in ks n) ≡ Some k → n ≡ kind_number k
+    go : (kind_in ks n ≡ Some k → n ≡ kind_number k) → (t : Bool) → eqb n (kind_number x) ≡ t
+        → cond t (Some x) (kind_in ks n) ≡ Some k → n ≡ kind_number k
     go rest true w e =
         let same : x ≡ k = cc in
         eqb-true n (kind_number x) w ∙ ap kind_number same
@@ -47,7 +48,8 @@ one_of : (low n k : ℕ) → all_from low n ≡ true → low ≤ k → k < low +
 one_of low zero k e h l = absurd (omega arith)
 one_of low (suc n) k e h l = go (one_of (low + 1) n k) (eqb low k) refl
   where
-    go : (all_from (low + 1) n ≡ true → low + 1 ≤ k → k < low + 1 + n → is_kind (kind_of k) ≡ true) → (t : Bool) → eqb low k ≡ t → is_kind (kind_of k) ≡ true
+    go : (all_from (low + 1) n ≡ true → low + 1 ≤ k → k < low + 1 + n → is_kind (kind_of k) ≡ true) → (t : Bool) → eqb low k ≡ t
+        → is_kind (kind_of k) ≡ true
     go rest true w = rw (← eqb-true low k w) (and_left (is_kind (kind_of low)) (all_from (low + 1) n) e)
     go rest false w =
         let apart = eqb-false low k w in
@@ -117,8 +119,10 @@ no_payload k e = (not 2 refl, ne_or (ne_or (ne_eqb k 50 (not 50 refl)) (ne_eqb k
     ne_or : {a b : Bool} → a ≡ false → b ≡ false → a || b ≡ false
     ne_or f g = rw (f, g)
 
-pub paid_kind : (b : List ℕ) (p at end n : ℕ) (k : Kind) (y : Bool) → n ≡ be32 b at → 9 ≤ n → at + 4 + n ≤ end → kind_fits_of p (kind_at b at) ≡ true
-    → Some k ≡ kind_of (kind_at b at) → y ≡ payload_fits b 2 p (kind_number k) (at + 13) (at + 4 + n) → then_some y k ≡ kind_if (kind_at b at) (shape b 2 p at end)
+pub paid_kind : (b : List ℕ) (p at end n : ℕ) (k : Kind) (y : Bool) → n ≡ be32 b at → 9 ≤ n → at + 4 + n ≤ end
+    → kind_fits_of p (kind_at b at) ≡ true
+    → Some k ≡ kind_of (kind_at b at) → y ≡ payload_fits b 2 p (kind_number k) (at + 13) (at + 4 + n)
+    → then_some y k ≡ kind_if (kind_at b at) (shape b 2 p at end)
 unfolding shape
 paid_kind b p at end n k y en l w f e paid =
     let same = numbered (kind_at b at) k (sym e) in

@@ -2,23 +2,24 @@
 -- Assumes nothing.
 use mathlib.Core.Path.{◌≡◌, refl, sym, ap, ◌∙◌}
 use mathlib.Core.List.{List}
-use mathlib.Core.Bool.{Bool, true, false, cond}
+use mathlib.Core.Bool.{Bool, true, false, cond, not}
 use Prim.Native.Nat.{ℕ, zero, suc, ◌+◌, ◌-◌, ◌≤◌, ◌<◌}
 use native.Mathlib.Omega.{arith}
 use native.Mathlib.Numerals.{sub-one}
 use lib.ListN.{length}
 use lib.Dec.{ltb, eqb}
-use borrow.Author.Tests.{lt-ltb, le-ltb, eq-eqb, ne_eqb}
+use borrow.Author.Tests.{lt-ltb, le-ltb, eq-eqb, ne_eqb, eqb-false}
 use Rattle.refusals.specs.Refusals.{Refusal}
 use Rattle.refusals.specs.Answers.{Answer, refused, accepted}
+use Rattle.text.specs.Newlines.{is_range}
 use Rattle.image.specs.Bytes.{be32}
 use Rattle.image.specs.Kinds.{TEXT}
 use Rattle.image.specs.Grammar.{bare, place, after, complete, row_of, row_under_of, first_child}
 use Rattle.image.specs.Read.{Read, got, bad, bind, Head, head_at, stop_at, kind_at, Tree, Trees, absent, node}
-use Rattle.image.specs.Read.{nil, ◌▸◌, opens, skips, child_at, record_at, children_at, step_of}
-use Rattle.image.specs.Open.{Opening, open_of}
-use Rattle.image.specs.declared.records.Reader.{Reader}
-use Rattle.image.proofs.Shapes.{Opened, opened, is_opened, skips_within, kind_range}
+use Rattle.image.specs.Read.{nil, ◌▸◌, shape, opens, skips, child_at, record_at, children_at, step_of}
+use Rattle.image.specs.Open.{HeadRead, head_of, stop_of}
+use Rattle.image.specs.declared.reader.Reader.{Reader}
+use Rattle.image.proofs.Shapes.{Opened, shaped, opened, is_opened, skips_within, kind_range}
 
 -- ---- one record
 pub record_bad : (s b : List ℕ) (v left p at end n q : ℕ) → opens s b v left p at end ≡ bad n q → record_at s b v left p at end ≡ bad n q
@@ -36,30 +37,62 @@ pub record_opens : (s b : List ℕ) (v left p at end : ℕ) → Opened s b v (su
 unfolding record_at
 record_opens s b v left p at end o = rw (is_opened o)
 
+-- a refusal, as what was read
+abbrev refusal_read : {A : Type 0} → Answer ℕ → Read A
+refusal_read (refused x) = bad x.number x.place
+refusal_read (accepted n) = bad 0 n
+
 -- what `opening` answers
-pub open_wrong : (s b : List ℕ) (v left p at end : ℕ) (x : Refusal) → open_of p (opens s b v left p at end) ≡ refused x
+pub open_wrong : (s b : List ℕ) (v left p at end : ℕ) (x : Refusal) → head_of p (opens s b v left p at end) ≡ refused x
     → step_of (record_at s b v left p at end) ≡ refused x
 open_wrong s b v left p at end x e = go (opens s b v left p at end) refl e
   where
-    go : (r : Read Head) → opens s b v left p at end ≡ r → open_of p r ≡ refused x → step_of (record_at s b v left p at end) ≡ refused x
+    go : (r : Read Head) → opens s b v left p at end ≡ r → head_of p r ≡ refused x → step_of (record_at s b v left p at end) ≡ refused x
     go (got h k) o e = cc
     go (bad m k) o e = ap step_of (record_bad s b v left p at end m k o) ∙ (cc)
 
-pub is_record : (s b : List ℕ) (v left p at end k n f row : ℕ) → Opened s b v left p at end → k ≡ kind_at b at → n ≡ be32 b at
-    → f ≡ first_child k (at + 13) (at + 4 + n) → row ≡ row_under_of p k → accepted (record { first = f; stop = at + 4 + n; row = row }) ≡ open_of p (opens s b v left p at end)
+pub is_record : (s b : List ℕ) (v left p at end k n f row : ℕ) → Opened s b v left p at end → k ≡ kind_at b at → n ≡ stop_at b at
+    → f ≡ first_child k (at + 13) n → row ≡ row_under_of p k
+    → accepted (record { first = f; stop = n; row = row }) ≡ head_of p (opens s b v left p at end)
 is_record s b v left p at end k n f row o ek en ef er = rw (ef, er, ek, en, is_opened o)
 
-pub record Opens (s b : List ℕ) (v left p at end : ℕ) (o : Opening) : Type 0 where
+-- what `stop` answers of a record whose shape is right
+pub stop_wrong : (s b : List ℕ) (v left p at end : ℕ) (x : Refusal) → shape b v p at end ≡ true → stop_of s b left at ≡ refused x
+    → opens s b v left p at end ≡ bad x.number x.place
+unfolding opens
+stop_wrong s b v left p at end x right e = simp right (go (eqb left 0) (is_range s (be32 b (at + 5)) (be32 b (at + 9))) e)
+  where
+    go : (t₅ t₆ : Bool)
+        → cond t₅ (refused (record { number = 5; place = at })) (cond (not t₆) (refused (record { number = 6; place = at })) (accepted (stop_at b at)))
+        ≡ refused x
+        → cond t₅ (bad 5 at) (cond (not t₆) (bad 6 at) (got (head_at b at) (head_at b at).first)) ≡ bad x.number x.place
+    go true t₆ e = ap refusal_read e
+    go false false e = ap refusal_read e
+    go false true e = let z : ◌≡◌ {A = ℕ} 0 1 = cc in absurd (omega arith)
+
+pub stop_right : (s b : List ℕ) (v left p at end n : ℕ) → shape b v p at end ≡ true → stop_of s b left at ≡ accepted n
+    → Opened s b v left p at end × (n ≡ stop_at b at)
+stop_right s b v left p at end n right e = go (eqb left 0) (is_range s (be32 b (at + 5)) (be32 b (at + 9))) refl refl e
+  where
+    go : (t₅ t₆ : Bool) → eqb left 0 ≡ t₅ → is_range s (be32 b (at + 5)) (be32 b (at + 9)) ≡ t₆
+        → cond t₅ (refused (record { number = 5; place = at })) (cond (not t₆) (refused (record { number = 6; place = at })) (accepted (stop_at b at)))
+        ≡ accepted n
+        → Opened s b v left p at end × (n ≡ stop_at b at)
+    go true t₆ a c e = let z : ◌≡◌ {A = ℕ} 0 1 = cc in absurd (omega arith)
+    go false false a c e = let z : ◌≡◌ {A = ℕ} 0 1 = cc in absurd (omega arith)
+    go false true a c e = (record { more = eqb-false left 0 a; right = shaped b v p at end right; span = c }, cc)
+
+pub record Opens (s b : List ℕ) (v left p at end : ℕ) (o : HeadRead) : Type 0 where
   pub held : Opened s b v left p at end
   pub first : o.first ≡ (head_at b at).first
   pub stop : o.stop ≡ stop_at b at
   pub rows : o.row ≡ row_under_of p (kind_at b at)
 
-pub open_record : (s b : List ℕ) (v left p at end : ℕ) (o : Opening) → open_of p (opens s b v left p at end) ≡ accepted o
+pub open_record : (s b : List ℕ) (v left p at end : ℕ) (o : HeadRead) → head_of p (opens s b v left p at end) ≡ accepted o
     → Opens s b v left p at end o
 open_record s b v left p at end i e = go (opens s b v left p at end) refl e
   where
-    go : (r : Read Head) → opens s b v left p at end ≡ r → open_of p r ≡ accepted i → Opens s b v left p at end i
+    go : (r : Read Head) → opens s b v left p at end ≡ r → head_of p r ≡ accepted i → Opens s b v left p at end i
     go (bad m k) o e = cc
     go (got h k) o e =
         let w = opened s b v left p at end h k o in
@@ -76,11 +109,13 @@ pub spare : (one : ℕ → ℕ → ℕ → Read Tree) (n row at stop : ℕ) → 
 unfolding children_at
 spare one n row at stop h e = simp (lt-ltb at stop h, eq-eqb row 0 e)
 
-pub missing : (one : ℕ → ℕ → ℕ → Read Tree) (n row at stop : ℕ) → stop ≤ at → complete row ≡ false → children_at one (suc n) row at stop ≡ bad 4 at
+pub missing : (one : ℕ → ℕ → ℕ → Read Tree) (n row at stop : ℕ) → stop ≤ at → complete row ≡ false
+    → children_at one (suc n) row at stop ≡ bad 4 at
 unfolding children_at
 missing one n row at stop h m = simp (le-ltb at stop h, m)
 
-pub ended : (one : ℕ → ℕ → ℕ → Read Tree) (n row at stop : ℕ) → stop ≤ at → complete row ≡ true → children_at one (suc n) row at stop ≡ got nil stop
+pub ended : (one : ℕ → ℕ → ℕ → Read Tree) (n row at stop : ℕ) → stop ≤ at → complete row ≡ true
+    → children_at one (suc n) row at stop ≡ got nil stop
 unfolding children_at
 ended one n row at stop h m = simp (le-ltb at stop h, m)
 
@@ -99,7 +134,8 @@ keeps f (got ts n) = refl
 keeps f (bad n p) = refl
 
 -- a text has no children: it is read to its end
-pub text_read : (s b : List ℕ) (v left at end : ℕ) → Opened s b v left TEXT at end → step_of (record_at s b v left TEXT at end) ≡ accepted (stop_at b at)
+pub text_read : (s b : List ℕ) (v left at end : ℕ) → Opened s b v left TEXT at end
+    → step_of (record_at s b v left TEXT at end) ≡ accepted (stop_at b at)
 unfolding row_under_of first_child row_of
 text_read s b v zero at end o = absurd (o.more refl)
 text_read s b v (suc left) at end o =
@@ -180,7 +216,7 @@ children_end one (suc n) row at stop =
     (λ t next. map_ends stop (children_at one n (after row) next stop) t (children_end one n (after row) next stop))))
     (cond_ends stop (complete row) (got nil stop) (bad 4 at) refl tt)
 
-pub record_steps : (s b : List ℕ) (v left p at end : ℕ) (i : Opening) → Opens s b v left p at end i
+pub record_steps : (s b : List ℕ) (v left p at end : ℕ) (i : HeadRead) → Opens s b v left p at end i
     → step_of (record_at s b v left p at end) ≡ step_of (children_at (child_at s b v (left - 1)) (suc (length b)) i.row i.first i.stop)
 record_steps s b v zero p at end i o = absurd (o.held.more refl)
 record_steps s b v (suc left) p at end i o =
@@ -195,7 +231,8 @@ record_within s b v left p at end q e = go (opens s b v left p at end) refl
     taken zero o n = absurd (o.more refl)
     taken (suc d) o n = there (within s b v d p at) (children_end _ _ _ _ _) (ap step_of (sym (record_opens s b v d p at end o)) ∙ n)
       where
-        there : (r : Read Trees) → EndsAt (stop_at b at) r → step_of (bind r (λ ts next. got (node (head_at b at) ts) next)) ≡ accepted q → (at < q) × (q ≤ end)
+        there : (r : Read Trees) → EndsAt (stop_at b at) r → step_of (bind r (λ ts next. got (node (head_at b at) ts) next)) ≡ accepted q
+            → (at < q) × (q ≤ end)
         there (got ts k) f e = let same : k ≡ q = cc in omega (arith, f, o.right.long, o.right.within)
         there (bad m k) f e = let z : ◌≡◌ {A = ℕ} 0 1 = cc in absurd (omega arith)
 
@@ -209,7 +246,8 @@ record_within s b v left p at end q e = go (opens s b v left p at end) refl
 pub child_within : (s b : List ℕ) (v left p at end q : ℕ) → step_of (child_at s b v left p at end) ≡ accepted q → (at < q) × (q ≤ end)
 child_within s b v left p at end q e = go (skips b p at end) refl e
   where
-    go : (t : Bool) → skips b p at end ≡ t → step_of (cond t (got absent (at + 4)) (record_at s b v left (bare p) at end)) ≡ accepted q → (at < q) × (q ≤ end)
+    go : (t : Bool) → skips b p at end ≡ t → step_of (cond t (got absent (at + 4)) (record_at s b v left (bare p) at end)) ≡ accepted q
+        → (at < q) × (q ≤ end)
     go true k e =
         let w = skips_within b p at end k in
         let same : at + 4 ≡ q = cc in

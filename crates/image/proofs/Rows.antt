@@ -91,7 +91,8 @@ module _ (s b : List ℕ) (v : ℕ) where
       more_of (place row) (after row) at stop ts r.levels r.low r.far c (sym (plain_place r.levels (place row) at stop f) ∙ c.reads)
 
   -- any number is due, and the end is not reached: one more
-  pub row_more : (row at stop : ℕ) (ts : Trees) → ¬ (row ≡ 0) → is_many row ≡ true → is_optional (place row) ≡ false → at < stop → Row s b v row at stop ts
+  pub row_more : (row at stop : ℕ) (ts : Trees) → ¬ (row ≡ 0) → is_many row ≡ true → is_optional (place row) ≡ false → at < stop
+      → Row s b v row at stop ts
       → More s b v (bare (place row)) row at stop ts
   row_more row at stop ts z m f l r =
       ⊎_elim (λ x. absurd (lt_irrefl at (lt_of_lt_of_le l x.1)))
@@ -134,7 +135,8 @@ module _ (s b : List ℕ) (v : ℕ) where
       → More s b v (bare (place row)) (after row) at stop ts
   row_there row at stop ts o n r = ⊎_elim (λ g. absurd (n g.none)) (λ m. m) (row_may row at stop ts o r)
 
-  pub row_absent : (row at stop : ℕ) (ts : Trees) → complete row ≡ false → be32 b at ≡ 0 → Row s b v row at stop ts → Gone s b v (after row) at stop ts
+  pub row_absent : (row at stop : ℕ) (ts : Trees) → complete row ≡ false → be32 b at ≡ 0 → Row s b v row at stop ts
+      → Gone s b v (after row) at stop ts
   row_absent row at stop ts o z r = ⊎_elim (λ g. g) (λ m. absurd (omega (arith, m.here.long))) (row_may row at stop ts o r)
 
   -- no place is left

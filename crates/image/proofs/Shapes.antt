@@ -47,7 +47,8 @@ is_shaped b v p at end h =
     simp (le-leb 9 (be32 b at) h.long, le-leb (stop_at b at) end h.within, h.kind) h.payload
 
 -- ---- the payload
-fits_first : (t₁ t₂ : Bool) (from stop : ℕ) → from ≤ stop → (t₁ ≡ false → t₂ ≡ true → from < stop) → cond t₁ stop (cond t₂ (from + 1) from) ≤ stop
+fits_first : (t₁ t₂ : Bool) (from stop : ℕ) → from ≤ stop → (t₁ ≡ false → t₂ ≡ true → from < stop)
+    → cond t₁ stop (cond t₂ (from + 1) from) ≤ stop
 fits_first true t₂ from stop le h = omega arith
 fits_first false true from stop le h = let l = h refl refl in omega arith
 fits_first false false from stop le h = le

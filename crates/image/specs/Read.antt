@@ -1,6 +1,7 @@
 -- What a source and an image read as: document 01, "The tree image", and refusals 1 to 7 of "When a call is turned down".
 -- s is the source and b the image. An offset `at` counts from b's first byte.
-use Rattle.std.specs.Prelude.{◌≡◌, List, [], ◌∷◌, Bool, true, false, cond, not, ◌&&◌, ℕ, zero, suc, ◌+◌, ◌*◌, length, get_or, ltb, leb, eqb, Option, None, Some, Result}
+use Rattle.std.specs.Prelude.{◌≡◌, List, [], ◌∷◌, Bool, true, false, cond, not, ◌&&◌, ℕ, zero, suc, ◌+◌, ◌*◌, length}
+use Rattle.std.specs.Prelude.{get_or, ltb, leb, eqb, Option, None, Some, Result}
 use Rattle.refusals.specs.Refusals.{Refusal, is_one_of}
 use Rattle.refusals.specs.Answers.{Answer, refused, accepted}
 use Rattle.refusals.specs.Reasons.{answer_of}

@@ -1,5 +1,5 @@
 // Numbers of an image, big-endian.
-// kept: as sums. By `from_be_bytes` of an array of the bytes layout takes 8 parts in a hundred longer.
+// kept: as sums. By `from_be_bytes` of an array of the bytes layout takes 8 parts in a hundred longer, and no class may get slower.
 ghost use Rattle.std.specs.Prelude.{◌≡◌, ◌+◌, ◌≤◌, ◌<◌, length};
 ghost use Rattle.image.specs.Bytes.{Is16, Is32};
 

@@ -23,6 +23,7 @@ fn comments_from(source: &[u8], image: &[u8], count: usize) -> Result<usize, Ref
     requires { 7 + 8 * count ≤ length image.now }
     ensures { answer_of (λ n. n) result ≡ step_of (comments_from false source.now image.now count 0 7) }
 {
+    // kept: by the index, since a refusal names the place: `chunks` with `enumerate` would have both an index and a part.
     for i in 0..count {
         let at = PAIRS + PAIR * i;
         if !comment_fits(source, image, at) {

@@ -48,125 +48,41 @@ pub enum Due {
 
 // The lowest and the highest of the numbers of kinds that may stand somewhere.
 #[derive(Clone, Copy)]
-struct Range {
-    low: u8,
-    high: u8,
-}
+struct Range(u8, u8);
+
+const LIST: Range = Range(Kind::List as u8, Kind::List as u8);
 
 // In the order of `Due`. (A constant would be copied at each use.)
+// kept: a table by the enum, as document 01 has one: a `match` of 28 arms would say it in as many lines.
 static RANGES: [Range; 28] = [
-    Range {
-        low: Kind::Tree as u8,
-        high: Kind::Tree as u8,
-    },
-    Range {
-        low: Kind::Text as u8,
-        high: Kind::Text as u8,
-    },
-    Range {
-        low: Kind::Path as u8,
-        high: Kind::Path as u8,
-    },
-    Range {
-        low: Kind::Import as u8,
-        high: Kind::Import as u8,
-    },
-    Range {
-        low: Kind::NameAndType as u8,
-        high: Kind::NameAndType as u8,
-    },
-    Range {
-        low: Kind::Variant as u8,
-        high: Kind::Variant as u8,
-    },
-    Range {
-        low: Kind::Field as u8,
-        high: Kind::Field as u8,
-    },
-    Range {
-        low: Kind::Block as u8,
-        high: Kind::Block as u8,
-    },
-    Range {
-        low: Kind::RecordFields as u8,
-        high: Kind::RecordFields as u8,
-    },
-    Range {
-        low: Kind::Arm as u8,
-        high: Kind::Arm as u8,
-    },
-    Range {
-        low: Kind::Operator as u8,
-        high: Kind::Operator as u8,
-    },
-    Range {
-        low: Kind::Operator as u8,
-        high: Kind::Operator as u8,
-    },
-    Range {
-        low: Kind::Literal as u8,
-        high: Kind::Literal as u8,
-    },
-    Range {
-        low: Kind::FilterMap as u8,
-        high: Kind::Import as u8,
-    },
-    Range {
-        low: Kind::Let as u8,
-        high: Kind::ExprStmt as u8,
-    },
-    Range {
-        low: Kind::Option as u8,
-        high: Kind::RecordType as u8,
-    },
-    Range {
-        low: Kind::Return as u8,
-        high: Kind::Parentheses as u8,
-    },
-    Range {
-        low: Kind::Underscore as u8,
-        high: Kind::EnumVariant as u8,
-    },
-    Range {
-        low: Kind::TextPart as u8,
-        high: Kind::ExprPart as u8,
-    },
-    Range {
-        low: Kind::List as u8,
-        high: Kind::List as u8,
-    },
-    Range {
-        low: Kind::List as u8,
-        high: Kind::List as u8,
-    },
-    Range {
-        low: Kind::List as u8,
-        high: Kind::List as u8,
-    },
-    Range {
-        low: Kind::List as u8,
-        high: Kind::List as u8,
-    },
-    Range {
-        low: Kind::List as u8,
-        high: Kind::List as u8,
-    },
-    Range {
-        low: Kind::List as u8,
-        high: Kind::List as u8,
-    },
-    Range {
-        low: Kind::List as u8,
-        high: Kind::List as u8,
-    },
-    Range {
-        low: Kind::List as u8,
-        high: Kind::List as u8,
-    },
-    Range {
-        low: Kind::List as u8,
-        high: Kind::List as u8,
-    },
+    Range(Kind::Tree as u8, Kind::Tree as u8),
+    Range(Kind::Text as u8, Kind::Text as u8),
+    Range(Kind::Path as u8, Kind::Path as u8),
+    Range(Kind::Import as u8, Kind::Import as u8),
+    Range(Kind::NameAndType as u8, Kind::NameAndType as u8),
+    Range(Kind::Variant as u8, Kind::Variant as u8),
+    Range(Kind::Field as u8, Kind::Field as u8),
+    Range(Kind::Block as u8, Kind::Block as u8),
+    Range(Kind::RecordFields as u8, Kind::RecordFields as u8),
+    Range(Kind::Arm as u8, Kind::Arm as u8),
+    Range(Kind::Operator as u8, Kind::Operator as u8),
+    Range(Kind::Operator as u8, Kind::Operator as u8),
+    Range(Kind::Literal as u8, Kind::Literal as u8),
+    Range(Kind::FilterMap as u8, Kind::Import as u8),
+    Range(Kind::Let as u8, Kind::ExprStmt as u8),
+    Range(Kind::Option as u8, Kind::RecordType as u8),
+    Range(Kind::Return as u8, Kind::Parentheses as u8),
+    Range(Kind::Underscore as u8, Kind::EnumVariant as u8),
+    Range(Kind::TextPart as u8, Kind::ExprPart as u8),
+    LIST,
+    LIST,
+    LIST,
+    LIST,
+    LIST,
+    LIST,
+    LIST,
+    LIST,
+    LIST,
 ];
 
 impl Due {
@@ -175,7 +91,7 @@ impl Due {
         ensures { result ≡ kind_fits_of (due_number self) kind }
     {
         let range = RANGES[self as usize];
-        range.low <= kind && kind <= range.high
+        range.0 <= kind && kind <= range.1
     }
 
     // The places of the children of a record of this kind that stands here.

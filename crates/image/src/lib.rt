@@ -6,6 +6,7 @@ mod comments;
 pub mod grammar;
 pub mod kinds;
 pub mod limits;
+mod reader;
 mod records;
 pub mod sizes;
 
@@ -17,7 +18,7 @@ use bytes::{num16, num32};
 use comments::read_comments;
 use grammar::Due;
 use limits::{MAX_BODY, MAX_RECORDS_DEEP, MAX_SOURCE};
-use records::Reader;
+use reader::Reader;
 use refusals::{Reason, Refused};
 use sizes::HEADER;
 

@@ -1,31 +1,20 @@
 // Records: refusals 4, 5 and 6, in reading order.
-ghost use Rattle.std.specs.Prelude.{◌≡◌, cond, suc, ◌+◌, ◌≤◌, length, None};
+ghost use Rattle.std.specs.Prelude.{◌≡◌, cond, ◌+◌, ◌≤◌, length, None};
 ghost use Rattle.refusals.specs.Reasons.{answer_of};
 ghost use Rattle.text.specs.Newlines.{is_range};
 ghost use Rattle.image.specs.Bytes.{be32};
 ghost use Rattle.image.specs.Kinds.{TEXT};
 ghost use Rattle.image.specs.Places.{due_number, place_number, row_number};
-ghost use Rattle.image.specs.Read.{shape, opens, skips, child_at, record_at, children_at, kind_at, step_of};
-ghost use Rattle.image.specs.Open.{opening_of, open_of};
+ghost use Rattle.image.specs.Read.{shape, skips, kind_at};
+ghost use Rattle.image.specs.Open.{head_read, head_due, stop_due, record_due, child_due, children_due};
 ghost use Rattle.image.specs.KindNumbers.{kind_of};
 
 use crate::bytes::num32;
 use crate::grammar::{Due, Place, after_row, first_child, is_over, is_text, payload_fits};
 use crate::kinds::Kind;
+use crate::reader::Reader;
 use crate::sizes::{HEAD, LENGTH, WIDTH};
 use refusals::{Reason, Refused};
-
-// What is read: the part of an image from `at` up to `end`, where the record around it ends. Spans are those of the source; `left` levels of
-// records are left.
-#[derive(Clone, Copy)]
-pub(crate) struct Reader<'a> {
-    pub(crate) source: &'a [u8],
-    pub(crate) image: &'a [u8],
-    pub(crate) left: u32,
-    pub(crate) at: usize,
-    pub(crate) end: usize,
-    ghost inside: { (at ≤ end) × (end ≤ length image.now) },
-}
 
 // A record whose children are to be read: where they start, where they stop, and their places.
 #[derive(Clone, Copy)]
@@ -102,37 +91,12 @@ impl Reader<'_> {
         self.at = at;
     }
 
-    // The record here, to its first child.
-    fn opening(&self, due: Due) -> Result<Opened, Refused>
-        ensures { answer_of opening_of result
-            ≡ open_of (due_number due) (opens self.now.source.now self.now.image.now 2 self.now.left (due_number due) self.now.at self.now.end) }
+    // Where the record here stops, whose shape is right: its depth and its span may be wrong.
+    #[inline(always)]
+    fn stop(&self) -> Result<usize, Refused>
+        requires { self.now.at + 13 ≤ length self.now.image.now }
+        ensures { answer_of (λ n. n) result ≡ stop_due self.now }
     {
-        let Some(kind) = self.shaped_kind(due) else {
-            return Err(Reason::Record.at(self.at));
-        };
-        if self.left == 0 {
-            return Err(Reason::Depth.at(self.at));
-        }
-        if !self.span_fits() {
-            return Err(Reason::Span.at(self.at));
-        }
-        let stop = self.at + LENGTH + num32(self.image, self.at);
-        Ok(Opened {
-            first: first_child(kind, self.at + HEAD, stop),
-            stop,
-            row: due.row_under(kind),
-        })
-    }
-
-    // Reads the record here, where only a text may stand. About half of all records are texts; they have no children, so that nothing is called again.
-    #[tactic(auto, using(crate::proofs::Shapes::shape_room))]
-    fn read_text(&self) -> Result<usize, Refused>
-        ensures { answer_of (λ n. n) result
-            ≡ step_of (record_at self.now.source.now self.now.image.now 2 self.now.left TEXT self.now.at self.now.end) }
-    {
-        if !self.text_fits() {
-            return Err(Reason::Record.at(self.at));
-        }
         if self.left == 0 {
             return Err(Reason::Depth.at(self.at));
         }
@@ -142,12 +106,42 @@ impl Reader<'_> {
         Ok(self.at + LENGTH + num32(self.image, self.at))
     }
 
+    // The record here, to its first child.
+    fn opening(&self, due: Due) -> Result<Opened, Refused>
+        ensures { answer_of head_read result ≡ head_due self.now (due_number due) }
+    {
+        let Some(kind) = self.shaped_kind(due) else {
+            return Err(Reason::Record.at(self.at));
+        };
+        let stop = self.stop()?;
+        Ok(Opened {
+            first: first_child(kind, self.at + HEAD, stop),
+            stop,
+            row: due.row_under(kind),
+        })
+    }
+
+    // Reads the record here, where only a text may stand. About half of all records are texts; they have no children, so that nothing is called
+    // again.
+    // kept: `text_fits` is a test of its own: with `opening(Due::Text)` in its place, inlined here, `check` of wild spans takes 6 parts in a hundred
+    // longer, and no class may get slower.
+    #[tactic(auto, using(crate::proofs::Shapes::shape_room))]
+    fn read_text(&self) -> Result<usize, Refused>
+        ensures { answer_of (λ n. n) result ≡ record_due self.now TEXT }
+    {
+        if !self.text_fits() {
+            return Err(Reason::Record.at(self.at));
+        }
+        // Taken apart and made anew, as in `read_record`.
+        let stop = self.stop()?;
+        Ok(stop)
+    }
+
     // Reads the child here: nothing or a record.
     #[cycle(reading)]
     #[tactic(auto, using(crate::proofs::Shapes::skips_within))]
     fn read_child(&self, place: Place) -> Result<usize, Refused>
-        ensures { answer_of (λ n. n) result
-            ≡ step_of (child_at self.now.source.now self.now.image.now 2 self.now.left (place_number place) self.now.at self.now.end) }
+        ensures { answer_of (λ n. n) result ≡ child_due self.now (place_number place) }
     {
         if self.skip_fits(place) {
             return Ok(self.at + LENGTH);
@@ -162,11 +156,10 @@ impl Reader<'_> {
     // Reads the record here with all that is in it.
     #[cycle(reading)]
     pub(crate) fn read_record(&self, due: Due) -> Result<usize, Refused>
-        ensures { answer_of (λ n. n) result
-            ≡ step_of (record_at self.now.source.now self.now.image.now 2 self.now.left (due_number due) self.now.at self.now.end) }
+        ensures { answer_of (λ n. n) result ≡ record_due self.now (due_number due) }
     {
         let o = self.opening(due)?;
-        // kept: field by field: `..*self` is refused for a struct with a ghost field.
+        // kept: field by field: Rattle refuses `..*self` in a literal of a struct with a ghost field.
         let inner = Reader {
             source: self.source,
             image: self.image,
@@ -182,13 +175,11 @@ impl Reader<'_> {
     // Reads the children of a record, at these places.
     #[cycle(reading)]
     fn read_children(&self, places: &'static [Place]) -> Result<usize, Refused>
-        ensures { answer_of (λ n. n) result
-            ≡ step_of (children_at (child_at self.now.source.now self.now.image.now 2 self.now.left)
-            (suc (length self.now.image.now)) (row_number places.now) self.now.at self.now.end) }
+        ensures { answer_of (λ n. n) result ≡ children_due self.now (row_number places.now) }
     {
         let mut here = *self;
         let mut row = places;
-        // kept: as a loop: where a child ends is read from it, so that no range or iterator has the next place.
+        // kept: as a loop: a child's end is what reading it answers, so that the `next` of an iterator would be this whole body.
         while here.at < here.end {
             let Some(place) = row.first() else {
                 return Err(Reason::Record.at(here.at));

@@ -11,23 +11,28 @@ use borrow.Author.Tests.{eq-eqb, ne_eqb}
 use Rattle.image.specs.Bytes.{be32}
 use Rattle.image.specs.Read.{stop_at, kind_at}
 use Rattle.ast.specs.Syntax.{Span, Import, Expr, expr, MaybeExpr, no_expr, some_expr, Block, braces, Stmts, no_stmts, ◌∷ˢ◌, Stmt, stmt}
-use Rattle.ast.specs.Syntax.{let', import_stmt, does, Parts, no_parts, string, value, Form, return', literal, block, match', function_call, access, path, record'}
+use Rattle.ast.specs.Syntax.{let', import_stmt, does, Parts, no_parts, string, value, Form, return', literal, block, match', function_call}
+use Rattle.ast.specs.Syntax.{access, path, record'}
 use Rattle.ast.specs.Syntax.{typed_record, list, not', assign, compound_assign, bin_op, negate, if_else, while, for, question_mark, f_string, parentheses}
 use Rattle.tree.specs.FormKinds.{form_kind}
 use Rattle.tree.specs.At.{Ends, ImportAt, ExprAt, MaybeExprAt, BlockAt, StmtsAt, StmtAt, PartsAt}
 use Rattle.rows.specs.Node.{line}
 use Rattle.acts.specs.Act.{Act, ◌⨟◌, push, says, grouped, indented, when, Given}
 use Rattle.acts.specs.Laid.{Room}
-use Rattle.acts.specs.Does.{Opening, Marks}
+use Rattle.acts.specs.Does.{Opens, Marks}
 use Rattle.acts.specs.declared.State.{State}
 use Rattle.acts.specs.declared.parts.Branch.TheVariants.{Group, Indent}
 use Rattle.acts.proofs.Closes.{closes_group, closes_indent}
 use Rattle.acts.specs.declared.Cursor.{Cursor}
 use Rattle.acts.proofs.Laws.{Lays, lays_then, lays_skip, room_first, room_next}
 use Rattle.comments.specs.Listed.{given}
+use Rattle.comments.specs.AllIn.{AllIn}
+use Rattle.comments.proofs.Offsets.{in_first, in_none}
 use Rattle.layout.specs.Layout.{import_path, is_braced, none_of, is_empty, gap, stmts_rule, stmt_rule}
 use Rattle.layout.specs.Layout.{before_stmt, after_stmt, block_start, block_rule, parts_rule, placeholder}
-use Rattle.layout.specs.Promises.{HasIn, HasAllIn, Whole, Readable}
+use Rattle.layout.specs.Promises.{HasIn, HasAllIn, Readable}
+use Rattle.comments.specs.Record.{Whole}
+use Rattle.layout.specs.Numbers.{HasKind}
 use Rattle.layout.specs.Forms.{expr_with, stmts_from, last_from, LetAt, let_rule, SpanAt, content_rule, Part, text, PartAt, part_rule}
 use Rattle.layout.specs.Forms as forms
 use Rattle.layout.proofs.Places.{head_whole, expr_whole, stmt_whole}
@@ -129,7 +134,7 @@ module _ {s b : List ℕ} {at : ℕ} where
           }
 
   pub body_laid : {none empty : Bool} {n : ℕ} {r : ℕ} {x x₁ x₄ x₅ : State} {x₂ x₃ : List ℕ} {c₂ c₃ : Cursor} → none ≡ NoStmts b at → empty ≡ NoParts b at
-      → n ≡ be32 b (at + 9) → Opening Indent x x₁ r
+      → n ≡ be32 b (at + 9) → Opens Indent x x₁ r
       → LaysAll StmtsAt (stmts_from true) s b (at + 13 + 13) (stop_at b (at + 13)) x₁.store.now x₁.cursor x₂ c₂
       → LaysAs MaybeExprAt (last_from none) s b (stop_at b (at + 13)) x₂ c₂ x₃ c₃
       → Lays (gap (given s b) n (not empty) false false) x₃ c₃ x₄.store.now x₄.cursor
@@ -148,7 +153,7 @@ module _ {s b : List ℕ} {at : ℕ} where
           subst (λ (t : Bool). Lays (last_from t (given s b) last) x₂ c₂ x₃ c₃) none' (m.of last a.3) in
           closes_indent o (lays_then (l.of ss a.2) (lays_then m' g')) z
 
-  pub block_laid : {empty : Bool} {r : ℕ} {x x₁ x₅ x₆ : State} {x₂ x₃ x₄ : List ℕ} {c₂ c₃ c₄ : Cursor} → empty ≡ NoParts b at → Opening Group x x₁ r
+  pub block_laid : {empty : Bool} {r : ℕ} {x x₁ x₅ x₆ : State} {x₂ x₃ x₄ : List ℕ} {c₂ c₃ c₄ : Cursor} → empty ≡ NoParts b at → Opens Group x x₁ r
       → Lays (block_start empty) x₁.store.now x₁.cursor x₂ c₂ → LaysAs BlockAt body_rule s b at x₂ c₂ x₃ c₃ → Lays (push line) x₃ c₃ x₄ c₄
       → Lays (says "}") x₄ c₄ x₅.store.now x₅.cursor
       → Marks 4 r x₅.cursor.row x₅ x₆ → LaysAs BlockAt block_rule s b at x.store.now x.cursor x₆.store.now x₆.cursor
@@ -158,7 +163,8 @@ module _ {s b : List ℕ} {at : ℕ} where
       go : (k : Block) → BlockAt s b k at → Lays (block_rule (given s b) k) x.store.now x.cursor x₆.store.now x₆.cursor
       go (braces p ss last) a =
           let empty' : empty ≡ is_empty ss last = e ∙ empty_same s b at ss last a.2 a.3 in
-          let l' : Lays (block_start (is_empty ss last)) x₁.store.now x₁.cursor x₂ c₂ = subst (λ (t : Bool). Lays (block_start t) x₁.store.now x₁.cursor x₂ c₂) empty' l in
+          let l' : Lays (block_start (is_empty ss last)) x₁.store.now x₁.cursor x₂ c₂ =
+          subst (λ (t : Bool). Lays (block_start t) x₁.store.now x₁.cursor x₂ c₂) empty' l in
           closes_group _ o (lays_then l' (lays_then (m.of (braces p ss last) a) (lays_then n w))) z
 
 -- ---- statements one after the other
@@ -357,7 +363,7 @@ module _ {s b : List ℕ} {at : ℕ} where
           }
 
   pub does_laid : {r : ℕ} {x x₁ x₃ x₄ : State} {x₂ : List ℕ} {c₂ : Cursor} → (kind_at b at ≡ 30 → ⊥) → (kind_at b at ≡ 31 → ⊥)
-      → Opening Group x x₁ r → LaysAs ExprAt (expr_with 0) s b (at + 13) x₁.store.now x₁.cursor x₂ c₂
+      → Opens Group x x₁ r → LaysAs ExprAt (expr_with 0) s b (at + 13) x₁.store.now x₁.cursor x₂ c₂
       → Lays (when (not (Braced b (at + 13))) (says ";")) x₂ c₂ x₃.store.now x₃.cursor → Marks 4 r x₃.cursor.row x₃ x₄
       → LaysAs StmtAt stmt_rule s b at x.store.now x.cursor x₄.store.now x₄.cursor
   unfolding StmtAt stmt_rule
@@ -454,6 +460,17 @@ pub part_whole : (s b : List ℕ) (at : ℕ) (x : Part) → PartAt s b x at → 
 part_whole s b at (text p) a = head_whole a.0
 part_whole s b at (forms.value e) a = head_whole a.0.head
 
+pub part_has_kind : (s b : List ℕ) (at : ℕ) (x : Part) → PartAt s b x at → HasKind 84 85 b at
+part_has_kind s b at (text p) a = record { whole = head_whole a.0; least = omega (arith, a.0.kinds); most = omega (arith, a.0.kinds) }
+part_has_kind s b at (forms.value e) a =
+    record { whole = head_whole a.0.head; least = omega (arith, a.0.head.kinds); most = omega (arith, a.0.head.kinds) }
+
+pub stmt_has_kind : (s b : List ℕ) (at : ℕ) (x : Stmt) → StmtAt s b x at → HasKind 30 32 b at
+unfolding StmtAt
+stmt_has_kind s b at (stmt p (let' x y z)) a = record { whole = head_whole a.0; least = omega (arith, a.0.kinds); most = omega (arith, a.0.kinds) }
+stmt_has_kind s b at (stmt p (import_stmt x)) a = record { whole = head_whole a.0; least = omega (arith, a.0.kinds); most = omega (arith, a.0.kinds) }
+stmt_has_kind s b at (stmt p (does x)) a = record { whole = head_whole a.0; least = omega (arith, a.0.kinds); most = omega (arith, a.0.kinds) }
+
 abbrev pub ValueAt : List ℕ → List ℕ → Expr → ℕ → Type 0
 ValueAt s b e at = ExprAt s b e (at + 13) × Ends s b (at + 13) at
 
@@ -489,3 +506,19 @@ module _ {s b : List ℕ} {at : ℕ} where
       go : (u : Part) → PartAt s b u at → Lays (part_rule (given s b) u) x c w f
       go (text p) a = absurd (g a.0.kinds)
       go (forms.value i) a = lays_then l (lays_then (m.of i a.1) n)
+
+-- statements, and parts of f-strings, one after the other lie in the image
+pub stmts_in : (s b : List ℕ) (from to : ℕ) (ss : Stmts) → StmtsAt s b ss from to → AllIn b from to
+unfolding StmtsAt
+stmts_in s b from to no_stmts a = in_none b from to (omega (arith, a.same))
+stmts_in s b from to (x ∷ˢ ss) a =
+    let w = stmt_whole s b from x a.0 in
+    in_first b from to (omega (arith, w.long, a.1.least)) w.fits (stmts_in s b (stop_at b from) to ss a.2)
+
+pub parts_in : (s b : List ℕ) (from to : ℕ) (ps : Parts) → PartsAt s b ps from to → AllIn b from to
+unfolding PartsAt
+parts_in s b from to no_parts a = in_none b from to (omega (arith, a.same))
+parts_in s b from to (string q ps) a =
+    in_first b from to (omega (arith, a.0.long, a.2.least)) a.0.fits (parts_in s b (stop_at b from) to ps a.3)
+parts_in s b from to (value e ps) a =
+    in_first b from to (omega (arith, a.0.head.long, a.3.least)) a.0.head.fits (parts_in s b (stop_at b from) to ps a.4)

@@ -19,8 +19,12 @@ use Rattle.acts.specs.Laid.{text, Room}
 use Rattle.acts.specs.declared.Cursor.{Cursor}
 use Rattle.acts.proofs.Laws.{Lays, lays_then, lays_skip, room_first, room_next}
 use Rattle.comments.specs.Listed.{given}
+use Rattle.comments.specs.AllIn.{AllIn}
+use Rattle.comments.proofs.Offsets.{in_first, in_none}
 use Rattle.layout.specs.Layout.{type_expr, unless_empty, some_type_params, return_type, declaration, shebang_rule, declarations_rule}
-use Rattle.layout.specs.Promises.{HasIn, HasAllIn, Whole, Readable}
+use Rattle.layout.specs.Promises.{HasIn, HasAllIn, Readable}
+use Rattle.comments.specs.Record.{Whole}
+use Rattle.layout.specs.Numbers.{HasKind}
 use Rattle.layout.specs.Elems.{type_params_rule}
 use Rattle.layout.specs.Forms.{two, three, four, five, OfDeclaration, declaration_rule, any_declaration}
 use Rattle.layout.specs.Forms.{MaybeListAt, MaybeTypeAt, MaybeIdentAt, declarations_from}
@@ -80,6 +84,9 @@ module _ (s b : List ℕ) (at : ℕ) where
   declaration_whole (function x y z w v) a = head_whole a.0.head
   declaration_whole (test x y) a = head_whole a.0.head
   declaration_whole (import_decl x) a = import_whole s b at x a
+
+  pub declaration_has_kind : (d : Declaration) → DeclarationAt s b d at → HasKind 10 16 b at
+  declaration_has_kind d a = let k = declaration_kind d a in record { whole = declaration_whole d a; least = k.0; most = k.1 }
 
 -- a declaration whose form is known
 module _ {s b : List ℕ} {at : ℕ} {X : Type 0} (mk : X → Declaration) (f : (d : Declaration) → DeclarationAt s b d at → IsDeclaration mk d) where
@@ -287,3 +294,11 @@ module _ {s b : List ℕ} {p to : ℕ} where
       go : (ds : List Declaration) → DeclarationsAt s b ds p to → Lays (declarations_from first (given s b) ds) x c z e
       go [] a = absurd (omega (arith, a.same))
       go (i ∷ ds) a = lays_then (l.of i a.0) (r.of ds a.2)
+
+-- declarations one after the other lie in the image
+pub declarations_in : (s b : List ℕ) (from to : ℕ) (ds : List Declaration) → to ≤ length b → DeclarationsAt s b ds from to → AllIn b from to
+unfolding DeclarationsAt
+declarations_in s b from to [] h a = in_none b from to (omega (arith, a.same))
+declarations_in s b from to (d ∷ ds) h a =
+    let w = declaration_whole s b from d a.0 in
+    in_first b from to (omega (arith, w.long, a.1.least)) w.fits (declarations_in s b (stop_at b from) to ds h a.2)

@@ -3,7 +3,7 @@
 use mathlib.Core.Path.{◌≡◌, refl, sym, ap, subst, ◌∙◌}
 use mathlib.Core.Bool.{Bool, true, false, not}
 use mathlib.Core.List.{List}
-use Prim.Native.Nat.{ℕ, ◌+◌, ◌≤◌}
+use Prim.Native.Nat.{ℕ, ◌≤◌}
 use native.Mathlib.Omega.{arith}
 use lib.Dec.{eqb}
 use Rattle.image.specs.Read.{kind_at}
@@ -18,6 +18,8 @@ use Rattle.comments.specs.Comments.{pop_trailing_comment}
 use Rattle.comments.specs.Listed.{given}
 use Rattle.layout.specs.Layout.{expr_with_precedence, is_block}
 use Rattle.layout.specs.Promises.{HasIn}
+use Rattle.layout.specs.Numbers.{HasKind}
+use Rattle.layout.proofs.Places.{expr_whole}
 use Rattle.layout.specs.Forms.{two, three, four, Of, form_rule, form_with, expr_with}
 use Rattle.acts.proofs.Laws.{Lays, lays_then}
 use Rattle.layout.proofs.Lays.{LaysAs}
@@ -54,10 +56,6 @@ FormIs k e =
     (pick (eqb k 68) (IsForm question_mark e)
     (pick (eqb k 69) (IsForm f_string e)
     (IsForm parentheses e))))))))))))))))))))
-
--- a kind that is at least k and is not k
-pub next : {n : ℕ} (k : ℕ) → k ≤ n → (n ≡ k → ⊥) → k + 1 ≤ n
-next k h f = omega (arith, f)
 
 form_range : (f : Form) → (50 ≤ form_kind f) × (form_kind f ≤ 70)
 form_range (return' x y) = (omega arith, omega arith)
@@ -116,6 +114,9 @@ module _ (s b : List ℕ) (at : ℕ) where
 
   pub expr_kind : (e : Expr) → ExprAt s b e at → (50 ≤ kind_at b at) × (kind_at b at ≤ 70)
   expr_kind (expr p f) a = let h = form_range f in let e = kind_of p f a in (omega (arith, h.0, e), omega (arith, h.1, e))
+
+  pub expr_has_kind : (e : Expr) → ExprAt s b e at → HasKind 50 70 b at
+  expr_has_kind e a = let k = expr_kind e a in record { whole = expr_whole s b at e a; least = k.0; most = k.1 }
 
 -- an expression whose form is known
 module _ {s b : List ℕ} {at : ℕ} {X : Type 0} (mk : X → Form) (f : (e : Expr) → ExprAt s b e at → IsForm mk e) where

@@ -19,7 +19,8 @@ use Rattle.acts.specs.declared.Cursor.{Cursor}
 use Rattle.acts.proofs.Laws.{Lays, lays_then, lays_skip}
 use Rattle.comments.specs.Listed.{given}
 use Rattle.layout.specs.Layout.{path_rule, is_some, is_group, import_first, import_path, import_group, import_elems, separated}
-use Rattle.layout.specs.Promises.{HasIn, InImage, Whole}
+use Rattle.layout.specs.Promises.{HasIn}
+use Rattle.comments.specs.Record.{InImage, Whole}
 use Rattle.layout.specs.Forms.{MaybePathAt}
 use Rattle.layout.proofs.Places.{within, head_whole, import_whole}
 use Rattle.layout.proofs.Runs.{list_of, import_elems_lem, braces}

@@ -16,6 +16,8 @@ use Rattle.acts.specs.Laid.{text, Room}
 use Rattle.acts.specs.declared.Cursor.{Cursor}
 use Rattle.acts.proofs.Laws.{Lays, lays_then, lays_skip, room_first, room_next}
 use Rattle.comments.specs.Listed.{given}
+use Rattle.comments.specs.AllIn.{AllIn}
+use Rattle.comments.proofs.Offsets.{in_first, in_none}
 use Rattle.layout.specs.Layout.{ident, path_next, path_more}
 use Rattle.layout.specs.Promises.{Readable, HasIn, HasAllIn}
 use Rattle.layout.proofs.Lays.{LaysAll, LaysAs}
@@ -98,3 +100,10 @@ module _ {s b : List ℕ} {p to : ℕ} where
         go : (is : List Ident) → IdentsAt s b is p to → Lays (path_more (given s b) breaks is) x c z e
         go [] a = absurd (omega (arith, a.same))
         go (i ∷ is) a = lays_then (l.of i a.0) (m.of is a.2)
+
+-- identifiers one after the other lie in the image
+pub idents_in : (s b : List ℕ) (from to : ℕ) (is : List Ident) → to ≤ length b → IdentsAt s b is from to → AllIn b from to
+unfolding IdentsAt
+idents_in s b from to [] h a = in_none b from to (omega (arith, a.same))
+idents_in s b from to (i ∷ is) h a =
+    in_first b from to (omega (arith, a.0.head.long, a.1.least)) (omega (arith, a.1.least, h)) (idents_in s b (stop_at b from) to is h a.2)

@@ -1,7 +1,9 @@
 pub mod IdentLaws
 pub mod Lays
+pub mod Walking
 pub mod Listing
 pub mod Places
+pub mod KindTests
 pub mod Ranks
 pub mod Groups
 pub mod Lasts

@@ -18,7 +18,7 @@ use Rattle.tree.specs.At.{ExprAt, left_depth}
 use Rattle.rows.specs.Node.{line_or_space}
 use Rattle.acts.specs.Act.{Given, Act, push, grouped, indented, ◌⨟◌}
 use Rattle.acts.specs.Laid.{Room}
-use Rattle.acts.specs.Does.{Opening, Marks}
+use Rattle.acts.specs.Does.{Opens, Marks}
 use Rattle.acts.specs.declared.State.{State}
 use Rattle.acts.specs.declared.parts.Branch.TheVariants.{Group, Indent}
 use Rattle.acts.proofs.Closes.{closes_group, closes_indent}
@@ -26,7 +26,8 @@ use Rattle.acts.specs.declared.Cursor.{Cursor}
 use Rattle.acts.proofs.Laws.{Lays, lays_then, room_first, room_next}
 use Rattle.comments.specs.Listed.{given}
 use Rattle.layout.specs.Layout.{Operands, leftmost, popped, binop, binop_precedence, expr_with_precedence, expr_form, operands, operator}
-use Rattle.layout.specs.Promises.{InImage, Readable, HasIn}
+use Rattle.layout.specs.Promises.{Readable, HasIn}
+use Rattle.comments.specs.Record.{InImage}
 use Rattle.layout.specs.Forms.{four, Of, expr_with, form_rule, OperatorAt, operator_rule}
 use Rattle.layout.specs.Chains.{Above, top, up, grown, Starts}
 use Rattle.layout.proofs.Places.{within, expr_whole}
@@ -112,8 +113,8 @@ module _ {q : ℕ} {s b : List ℕ} {e : Expr} {at : ℕ} where
   room_below (up {o = o} {r = r} {t = t} i j k a) z room = room_first _ (room_below a (popped (given s b) z t o (expr_with 0 (given s b) r)) room)
 
   pub chain_laid : {p : ℕ} {x : Expr} (a : Above q s b e at p x) (h : Act) {r i : ℕ} {s₀ s₁ s₃ s₄ s₅ s₆ s₇ : State} {s₂ : List ℕ} {c₂ : Cursor}
-      → Opening Group s₀ s₁ r → Lays h s₁.store.now s₁.cursor s₂ c₂ → Lays (push line_or_space) s₂ c₂ s₃.store.now s₃.cursor
-      → Opening Indent s₃ s₄ i → Lays (grown a (leftmost h)).ops s₄.store.now s₄.cursor s₅.store.now s₅.cursor
+      → Opens Group s₀ s₁ r → Lays h s₁.store.now s₁.cursor s₂ c₂ → Lays (push line_or_space) s₂ c₂ s₃.store.now s₃.cursor
+      → Opens Indent s₃ s₄ i → Lays (grown a (leftmost h)).ops s₄.store.now s₄.cursor s₅.store.now s₅.cursor
       → Marks 4 i s₅.cursor.row s₅ s₆ → Marks 4 r s₆.cursor.row s₆ s₇
       → Lays (binop (grown a (leftmost h))) s₀.store.now s₀.cursor s₇.store.now s₇.cursor
   unfolding binop
@@ -158,6 +159,7 @@ module _ (s b : List ℕ) (p q n : ℕ) (kind : kind_at b p ≡ 63) (op : n ≡ 
 pub record Symbol (b : List ℕ) (p : ℕ) : Type 0 where
   pub operand : InImage b (p + 13)
   pub byte : stop_at b (p + 13) + 14 ≤ length b
+  pub known : get_or b (stop_at b (p + 13) + 13) 0 < 14
 
 pub symbol_of : (s b : List ℕ) (p : ℕ) → kind_at b p ≡ 63 → (x : Expr) → ExprAt s b x p → Symbol b p
 unfolding ExprAt
@@ -167,6 +169,7 @@ symbol_of s b p kind x held =
     record {
       operand = within (expr_whole s b (p + 13) y.0.1.0 h.1.0);
       byte = omega (arith, h.1.1.ends.same, h.1.1.head.fits);
+      known = rw h.1.1.which.byte h.1.2;
     }
 
 -- one more offset in the stack

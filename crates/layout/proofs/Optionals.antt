@@ -17,8 +17,10 @@ use Rattle.acts.specs.declared.Cursor.{Cursor}
 use Rattle.acts.proofs.Laws.{Lays, lays_then, lays_skip, room_first, room_next}
 use Rattle.comments.specs.Comments.{pop_trailing_comment}
 use Rattle.comments.specs.Listed.{given}
+use Rattle.layout.specs.Numbers.{HasKind}
 use Rattle.layout.specs.Layout.{ident, type_expr, ident_elems, let_type, maybe_expr, otherwise, last_rule, before_stmt, block_rule, pattern}
-use Rattle.layout.specs.Promises.{HasIn, Whole, InImage}
+use Rattle.layout.specs.Promises.{HasIn}
+use Rattle.comments.specs.Record.{Whole, InImage}
 use Rattle.acts.specs.declared.words.Word.{Word}
 use Rattle.layout.specs.Elems.{IdentElem, HasListIn}
 use Rattle.layout.specs.Forms.{expr_with, after_word, maybe_after, last_from, MaybeTypeAt}
@@ -245,3 +247,10 @@ module _ {s b : List ℕ} {at : ℕ} where
           (m.of (ident_elems (given s b) is.elems)
           (list_of a.2.head (ident_elems_lem s b (stop_at b (stop_at b (at + 13))) (stop_at b (at + 13) + 13) is.elems a.2.elems))
           is.span a.2.head.end)
+
+pub pattern_has_kind : (s b : List ℕ) (at : ℕ) (p : Pattern) → PatternAt s b p at → HasKind 82 83 b at
+unfolding PatternAt
+pattern_has_kind s b at underscore a =
+    record { whole = head_whole a.0.head; least = omega (arith, a.0.head.kinds); most = omega (arith, a.0.head.kinds) }
+pattern_has_kind s b at (enum_variant i is) a =
+    record { whole = head_whole a.0.head; least = omega (arith, a.0.head.kinds); most = omega (arith, a.0.head.kinds) }

@@ -10,11 +10,12 @@ use lib.Dec.{eqb}
 use borrow.Author.Tests.{eqb-true, eqb-false}
 use Rattle.image.specs.Bytes.{be32}
 use Rattle.ast.specs.Syntax.{Span, Ident, Path, TypeExpr, type, TypeArgs, no_args, args, Import, import, ImportGroup, no_group, group, Idents, Expr, expr}
-use Rattle.ast.specs.Syntax.{Block, braces, Stmt, stmt, Pattern, underscore, enum_variant, MaybeExpr, no_expr, some_expr, MaybeBlock, no_block, some_block}
+use Rattle.ast.specs.Syntax.{Block, braces, Stmt, stmt, Pattern, underscore, enum_variant, MaybeExpr, no_expr, some_expr, MaybeBlock, no_block}
+use Rattle.ast.specs.Syntax.{some_block}
 use Rattle.tree.specs.At.{Head, Absent, IdentAt, PathAt, Maybe, TypeAt, TypeArgsAt, ImportAt, ImportGroupAt}
 use Rattle.tree.specs.At.{ListAt, ExprAt, BlockAt, StmtAt, PatternAt, MaybeExprAt, MaybeBlockAt}
 use Rattle.layout.specs.Layout.{import_span}
-use Rattle.layout.specs.Promises.{InImage, Whole}
+use Rattle.comments.specs.Record.{InImage, Whole}
 
 -- what the test for absence says of the length
 pub absent : {r : Bool} {n : ℕ} → r ≡ eqb n 0 → r ≡ true → n ≡ 0

@@ -16,7 +16,7 @@ use Rattle.acts.specs.Spelling.{spelling}
 use Rattle.acts.specs.declared.words.Word.TheVariants.{ParenOpen, ParenClose, BracketOpen, BracketClose, BraceOpen, BraceClose}
 use Rattle.acts.specs.Act.{Given, Act, ◌⨟◌, says, grouped, indented}
 use Rattle.acts.specs.Laid.{Room, Laid, Opened}
-use Rattle.acts.specs.Does.{Does, Opening}
+use Rattle.acts.specs.Does.{Does, Opens}
 use Rattle.acts.specs.declared.State.{State}
 use Rattle.acts.specs.declared.parts.Branch.TheVariants.{Group, Indent}
 use Rattle.acts.specs.declared.Cursor.{Cursor}
@@ -25,12 +25,16 @@ use Rattle.acts.proofs.Nested.{room_group, laid_group, room_indent, lays_indent}
 use Rattle.comments.specs.Comments.{pop_trailing_comment}
 use Rattle.tree.specs.CommentList.{span}
 use Rattle.comments.specs.Listed.{given}
+use Rattle.comments.specs.AllIn.{AllIn}
+use Rattle.comments.proofs.Offsets.{in_first, in_none}
 use Rattle.layout.specs.declared.forms.ListForm.{ListForm}
 use Rattle.layout.specs.declared.forms.WrapStyle.TheVariants.{Tight}
 use Rattle.layout.specs.Layout.{Elem, elements, separated, inside, before_elem, ident_elems, type_elems, field_elems}
 use Rattle.layout.specs.Layout.{import_elems, variant_elems, expr_elems, grouped_elems, entry_elems, arm_elems, edge, ends}
-use Rattle.layout.specs.Promises.{HasIn, HasAllIn, Whole, Readable}
-use Rattle.layout.specs.Elems.{elem_rule, IdentElem, ImportElem, VariantElem, TypeElem, FieldElem, ExprElem, GroupedElem, EntryElem, ArmElem, ElemsAt, mark, elements_rule, ListOf}
+use Rattle.layout.specs.Promises.{HasIn, HasAllIn, Readable}
+use Rattle.comments.specs.Record.{Whole}
+use Rattle.layout.specs.Elems.{elem_rule, IdentElem, ImportElem, VariantElem, TypeElem, FieldElem, ExprElem, GroupedElem, EntryElem, ArmElem}
+use Rattle.layout.specs.Elems.{ElemsAt, mark, elements_rule, ListOf}
 use Rattle.layout.specs.Elems.{starts, list_rule, HasListIn, HasEmptyIn}
 use Rattle.layout.proofs.Lays.{LaysAll, LaysAs, LaysList, LaysEmpty}
 
@@ -241,7 +245,7 @@ pub record Begun (form : ListForm) (store : List ℕ) (c : Cursor) (store' : Lis
   pub words : Laid (starts form) store₁ c₁ store₂ c₂
   pub indent : Opened INDENT 0 0 0 store₂ c₂ store' i
 
-pub begun : {form : ListForm} {r q : ℕ} {x y z w : State} → Opening Group x y r → Does (starts form) y z → Opening Indent z w q
+pub begun : {form : ListForm} {r q : ℕ} {x y z w : State} → Opens Group x y r → Does (starts form) y z → Opens Indent z w q
     → Begun form x.store.now x.cursor w.store.now w.cursor
 begun o l i = record { store₁ = _; store₂ = _; c₁ = _; c₂ = _; group = o.opened; words = l.laid; indent = i.opened }
 
@@ -381,3 +385,11 @@ module _ {form : ListForm} {end : ℕ} {s b : List ℕ} {c i d : Cursor} {y : Li
     list_ended {v = v} {r = r} m j =
         subst (λ (a : Act). Laid a h.store₀ c v r) (sym same)
         (laid_group _ h.begun.group ((lays_then (lays h.begun.words) (lays_then inner (lays m))).does in_list) j)
+
+-- elements one after the other lie in the image
+pub elems_in : (P : List ℕ → List ℕ → Elem → ℕ → Type 0) (s b : List ℕ) (from to : ℕ) (es : List Elem) → to ≤ length b → ElemsAt P s b es from to
+    → AllIn b from to
+unfolding ElemsAt
+elems_in P s b from to [] h a = in_none b from to (omega (arith, a.same))
+elems_in P s b from to (e ∷ es) h a =
+    in_first b from to (omega (arith, a.0.long, a.1.least)) (omega (arith, a.1.least, h)) (elems_in P s b (stop_at b from) to es h a.2)

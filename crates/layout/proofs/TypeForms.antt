@@ -19,7 +19,9 @@ use Rattle.comments.specs.Listed.{given}
 use Rattle.layout.proofs.Places.{head_whole, type_whole}
 use Rattle.layout.proofs.Runs.{list_of, type_elems_lem, parens, brackets}
 use Rattle.layout.specs.Layout.{type_expr, type_args, type_elems, variant_types, last_span}
-use Rattle.layout.specs.Promises.{HasIn, Whole, Readable}
+use Rattle.layout.specs.Promises.{HasIn, Readable}
+use Rattle.comments.specs.Record.{Whole}
+use Rattle.layout.specs.Numbers.{HasKind}
 use Rattle.layout.specs.Elems.{TypeElem, HasListIn}
 use Rattle.layout.specs.Forms.{OfType, type_rule, two, SomeTypesAt, LastEnd}
 use Rattle.layout.proofs.Lays.{LaysAs, LaysList}
@@ -61,6 +63,9 @@ module _ (s b : List ℕ) (at : ℕ) where
   type_kind (type p never) a = (omega (arith, a.0.kinds), omega (arith, a.0.kinds))
   type_kind (type p unit) a = (omega (arith, a.0.kinds), omega (arith, a.0.kinds))
   type_kind (type p (record_type x y)) a = (omega (arith, a.0.kinds), omega (arith, a.0.kinds))
+
+  pub type_has_kind : (t : TypeExpr) → TypeAt s b t at → HasKind 40 44 b at
+  type_has_kind t a = let k = type_kind t a in record { whole = type_whole s b at t a; least = k.0; most = k.1 }
 
 -- a type whose form is known
 module _ {s b : List ℕ} {at : ℕ} {X : Type 0} (mk : X → TypeForm) (f : (t : TypeExpr) → TypeAt s b t at → IsType mk t) where

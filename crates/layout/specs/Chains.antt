@@ -1,11 +1,13 @@
 -- The contracts of `binop`'s code: a chain of operators of one precedence, from its top down to the leftmost operand.
-use Rattle.std.specs.Prelude.{◌≡◌, List, ℕ, ◌+◌, ◌*◌, ◌≤◌, ◌<◌, get_or}
+use Rattle.std.specs.Prelude.{◌≡◌, List, ℕ, ◌+◌, ◌*◌, ◌≤◌, ◌<◌, get_or, length}
+use Rattle.image.specs.Read.{stop_at}
 use Rattle.ast.specs.Syntax.{Span, Expr, expr, bin_op}
 use Rattle.tree.specs.At.{ExprAt}
 use Rattle.acts.specs.Act.{Act}
 use Rattle.acts.specs.Laid.{Room, Laid}
 use Rattle.acts.specs.declared.Cursor.{Cursor}
 use Rattle.acts.specs.declared.State.{State}
+use Rattle.comments.specs.Record.{InImage}
 use Rattle.comments.specs.Listed.{given}
 use Rattle.comments.specs.declared.parsed.Parsed.{Parsed}
 use Rattle.layout.specs.Layout.{Operands, leftmost, popped, binop_precedence, operands}
@@ -36,6 +38,16 @@ pub record Filled (ops : List ℕ) (at left : ℕ) : Type 0 where
   pub far : left ≡ at + 13 * count
   pub few : count ≤ 64
   pub each : (i : ℕ) → i < count → get_or ops i 0 ≡ at + 13 * i
+
+-- the number of the operator between the operands of the record at `at`
+abbrev pub operator_of : List ℕ → ℕ → ℕ
+operator_of b at = get_or b (stop_at b (at + 13) + 13) 0
+
+-- it stands in the image, and is one of the first n
+pub record HasOperator (b : List ℕ) (at n : ℕ) : Type 0 where
+  pub in_image : InImage b (at + 13)
+  pub in_bounds : stop_at b (at + 13) + 14 ≤ length b
+  pub known : operator_of b at < n
 
 -- an operator of precedence q at `at`
 pub record HasChain (b : List ℕ) (at q : ℕ) : Type 0 where

@@ -7,7 +7,8 @@ use Rattle.image.specs.Bytes.{be32}
 use Rattle.image.specs.Kinds.{LIST, NAME_AND_TYPE, VARIANT, FIELD, ARM}
 use Rattle.image.specs.Read.{stop_at}
 use Rattle.ast.specs.Syntax.{Span, Ident, Idents, TypeExpr, Types, Fields, Pattern, MaybeExpr, Expr, Exprs, Entries}
-use Rattle.tree.specs.At.{Head, Record, first_at, second_at, third_at, Ends, Done, Before, IdentAt, TypeAt, TypesAt, ImportAt, PatternAt, MaybeExprAt, ExprAt}
+use Rattle.tree.specs.At.{Head, Record, first_at, second_at, third_at, Ends, Done, Before, IdentAt, TypeAt, TypesAt, ImportAt, PatternAt}
+use Rattle.tree.specs.At.{MaybeExprAt, ExprAt}
 use Rattle.acts.specs.Spelling.{spelling}
 use Rattle.acts.specs.Act.{Given, Act, grouped}
 use Rattle.acts.specs.Laid.{Room, Laid}
@@ -20,7 +21,8 @@ use Rattle.comments.specs.declared.parsed.Parsed.{Parsed}
 use Rattle.layout.specs.declared.forms.ListForm.{ListForm}
 use Rattle.layout.specs.declared.forms.WrapStyle.{WrapStyle}
 use Rattle.layout.specs.Promises.{Readable}
-use Rattle.layout.specs.Layout.{Elem, ident, named, type_expr, import_path, opens, elements, separated, params, type_params, record_type_rule, function_args, record_rule}
+use Rattle.layout.specs.Layout.{Elem, ident, named, type_expr, import_path, opens, elements, separated, params, type_params, record_type_rule}
+use Rattle.layout.specs.Layout.{function_args, record_rule}
 use Rattle.layout.specs.Layout.{ident_elems, field_elems, expr_elems, entry_elems, variant_steps, arm_steps, maybe_expr, expr_rule, is_block}
 
 -- a name and its type

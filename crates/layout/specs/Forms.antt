@@ -1,14 +1,18 @@
 -- The contracts by forms: each form of types, expressions, statements and declarations at an offset of the image, and its rule.
-use Rattle.std.specs.Prelude.{ℕ, ◌+◌, ◌≤◌, ◌<◌, ◌≡◌, Bool, List, length, Option}
-use Rattle.image.specs.Kinds.{TEXT_PART, EXPR_PART, OPERATOR, LITERAL}
+use Rattle.std.specs.Prelude.{ℕ, not, ◌&&◌, ◌||◌, eqb, leb, ◌+◌, ◌≤◌, ◌<◌, ◌≡◌, Bool, List, length, Option}
+use Rattle.image.specs.Kinds.{LIST, BLOCK_EXPR, MATCH, IF_ELSE, FOR, TEXT_PART, EXPR_PART, OPERATOR, LITERAL}
+use Rattle.image.specs.Bytes.{be32}
 use Rattle.image.specs.Read.{stop_at}
-use Rattle.ast.specs.Syntax.{Span, Ident, Path, TypeExpr, type, TypeForm, Types, ◌∷ᵗ◌, Expr, expr, Form, MaybeExpr, Block, Stmts, stmt, let', Idents, Declaration}
-use Rattle.tree.specs.At.{Head, Record, Done, Ends, ByteAt, PathAt, Maybe, TypeAt, TypesAt, ExprAt, BlockAt, StmtAt, IdentAt, ListAt, DeclarationAt}
+use Rattle.ast.specs.Syntax.{Span, Ident, Fields, Path, TypeExpr, type, TypeForm, Types, ◌∷ᵗ◌, Expr, expr, Form, MaybeExpr, Block, Stmts, stmt}
+use Rattle.ast.specs.Syntax.{let', Idents, Declaration}
+use Rattle.tree.specs.At.{Head, Record, Done, Ends, ByteAt, PathAt, Maybe, TypeAt, TypesAt, ExprAt, BlockAt, StmtAt, IdentAt, ListAt, FieldsAt}
+use Rattle.tree.specs.At.{DeclarationAt}
 use Rattle.rows.specs.Node.{ascii}
 use Rattle.acts.specs.Spelling.{spelling}
 use Rattle.acts.specs.declared.words.Word.{Word}
-use Rattle.acts.specs.Act.{Given, Act, ◌⨟◌, says, push, content}
+use Rattle.acts.specs.Act.{Given, Act, ◌⨟◌, when, says, push, content}
 use Rattle.layout.specs.Layout as layout
+use Rattle.layout.specs.Elems.{ListWith, params_rule}
 
 -- a constructor of two or more arguments, as one of a tuple
 abbrev pub two : {A B C : Type 0} → (A → B → C) → A × B → C
@@ -120,6 +124,27 @@ stmts_from first g ss = layout.stmts_rule g ss first
 abbrev pub last_from : Bool → Given → MaybeExpr → Act
 last_from first g m = layout.last_rule g m first
 
+-- what the code tests of a block and of a list: whether the block has no statements, and no last expression either; whether the list has one element
+abbrev pub no_stmts_at : List ℕ → ℕ → Bool
+no_stmts_at b at = eqb (stop_at b (at + 13)) (at + 13 + 13)
+
+abbrev pub is_empty_at : List ℕ → ℕ → Bool
+is_empty_at b at = no_stmts_at b at && eqb (be32 b (stop_at b (at + 13))) 0
+
+abbrev pub is_single_at : List ℕ → ℕ → Bool
+is_single_at b at = not (eqb (stop_at b at) (at + 13)) && eqb (stop_at b (at + 13)) (stop_at b at)
+
+-- expressions that end with a brace, by their kind: a block, `match`, `if`, `while` and `for`
+abbrev pub is_braced : ℕ → Bool
+is_braced kind = eqb kind BLOCK_EXPR || eqb kind MATCH || (leb IF_ELSE kind && leb kind FOR)
+
+-- the comma after an arm, and the semicolon after an expression, by the kind of what is before it
+abbrev pub arm_comma_rule : ℕ → Act
+arm_comma_rule kind = when (not (eqb kind BLOCK_EXPR)) (says ",")
+
+abbrev pub semicolon_rule : ℕ → Act
+semicolon_rule kind = when (not (is_braced kind)) (says ";")
+
 abbrev pub MaybeTypeAt : List ℕ → List ℕ → Option TypeExpr → ℕ → Type 0
 MaybeTypeAt s b = Maybe s b (TypeAt s b)
 
@@ -143,6 +168,19 @@ any_declaration d = d
 -- a word, and the name
 abbrev pub declares_at : Word → Bool → Given → Ident → Act
 declares_at k first g i = layout.declares g (spelling k) first i
+
+-- a declaration's name, and its type parameters or its parameters
+abbrev pub TypeNameAt : List ℕ → List ℕ → Ident × Option Idents → ℕ → Type 0
+TypeNameAt s b x at = IdentAt s b x.0 (at + 13) × Maybe s b (ListAt s b) x.1 (stop_at b (at + 13))
+
+abbrev pub declares_type : Word → Bool → Given → Ident × Option Idents → Act
+declares_type k first g x = (declares_at k first g x.0 ⨟ layout.some_type_params g x.1) ⨟ says " "
+
+abbrev pub FunctionNameAt : List ℕ → List ℕ → Ident × (Span × Fields) → ℕ → Type 0
+FunctionNameAt s b x at = IdentAt s b x.0 (at + 13) × ListWith LIST FieldsAt s b x.1 (stop_at b (at + 13))
+
+abbrev pub declares_function : Word → Bool → Given → Ident × (Span × Fields) → Act
+declares_function k first g x = (declares_at k first g x.0 ⨟ params_rule g x.1) ⨟ says " "
 
 -- optional lists of type parameters
 abbrev pub MaybeListAt : List ℕ → List ℕ → Option Idents → ℕ → Type 0

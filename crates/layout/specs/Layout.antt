@@ -8,7 +8,8 @@ use Rattle.ast.specs.Syntax.{Span, Ident, Path, Idents, TypeExpr, type, TypeForm
 use Rattle.ast.specs.Syntax.{Types, no_types, ◌∷ᵗ◌, Fields, no_fields, field, Import, import, ImportGroup, no_group, group, Imports, no_imports, ◌∷ⁱ◌}
 use Rattle.ast.specs.Syntax.{Pattern, underscore, enum_variant, Expr, expr, Form, return', literal, block, match', function_call, access, path, record'}
 use Rattle.ast.specs.Syntax.{typed_record, list, not', assign, compound_assign, bin_op, negate, if_else, while, for, question_mark, f_string, parentheses}
-use Rattle.ast.specs.Syntax.{Exprs, no_exprs, ◌∷ᵉ◌, MaybeExpr, no_expr, some_expr, Entries, no_entries, entry, Arms, no_arms, arm, Parts, no_parts, string}
+use Rattle.ast.specs.Syntax.{Exprs, no_exprs, ◌∷ᵉ◌, MaybeExpr, no_expr, some_expr, Entries, no_entries, entry, Arms, no_arms, arm, Parts}
+use Rattle.ast.specs.Syntax.{no_parts, string}
 use Rattle.ast.specs.Syntax.{value, Block, braces, MaybeBlock, no_block, some_block, Stmts, no_stmts, ◌∷ˢ◌, Stmt, stmt, StmtForm, let', import_stmt, does}
 use Rattle.ast.specs.Syntax.{Variants, no_variants, variant, Declaration, filter_map, const, record_decl, enum_decl, function, test, import_decl}
 use Rattle.ast.specs.Syntax.{SyntaxTree}
@@ -327,7 +328,9 @@ module _ (g : Given) where
     -- a group of one item loses its braces
     pub import_items : Span → Imports → Act
     import_items s no_imports = separated "{" "}" "," [] s Tight
-    import_items s (i ∷ⁱ is) = one_or is (import_path i) (separated "{" "}" "," (record { start = (import_span i).start; act = import_path i } ∷ import_elems is) s Tight)
+    import_items s (i ∷ⁱ is) =
+        one_or is (import_path i)
+        (separated "{" "}" "," (record { start = (import_span i).start; act = import_path i } ∷ import_elems is) s Tight)
 
     pub import_elems : Imports → List Elem
     import_elems no_imports = []

@@ -5,3 +5,4 @@ pub mod Elems
 pub mod Forms
 pub mod Ranks
 pub mod Chains
+pub mod Numbers

@@ -1,7 +1,5 @@
 -- The contracts of the layout functions: a part of the syntax tree is at an offset of the image, and its rule is laid.
 use Rattle.std.specs.Prelude.{◌≡◌, ℕ, ◌≤◌, List, length}
-use Rattle.image.specs.Bytes.{be32}
-use Rattle.image.specs.Read.{stop_at}
 use Rattle.acts.specs.Act.{Given, Act}
 use Rattle.acts.specs.Laid.{Room, Laid}
 use Rattle.acts.specs.declared.Cursor.{Cursor}
@@ -45,12 +43,3 @@ pub record LaidAll {T : Type 0} (R : List ℕ → List ℕ → T → ℕ → ℕ
     (p : Parsed) (from to : ℕ) (x y : State) : Type 0 where
   pub of : (h : HasAll R rule p from to x.cursor) → Laid (rule (given_by p) h.tree) x.store.now x.cursor y.store.now y.cursor
   pub same : y.store.ghost_name ≡ x.store.ghost_name
-
--- a record, or the absence of one, within the image
-pub record InImage (b : List ℕ) (at : ℕ) : Type 0 where
-  pub fits : stop_at b at ≤ length b
-
--- a record within the image
-pub record Whole (b : List ℕ) (at : ℕ) : Type 0 where
-  pub long : 9 ≤ be32 b at
-  pub fits : stop_at b at ≤ length b

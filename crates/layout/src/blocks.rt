@@ -1,17 +1,16 @@
 // The parts of `block` and `stmt` that lay no statement below them.
-ghost use Rattle.std.specs.Prelude.{◌≡◌, not, ◌&&◌, ◌||◌, ◌+◌, eqb, leb};
-ghost use Rattle.image.specs.Bytes.{be32};
-ghost use Rattle.image.specs.Kinds.{BLOCK_EXPR, MATCH, IF_ELSE, FOR};
+ghost use Rattle.std.specs.Prelude.{◌≡◌, ◌+◌};
 ghost use Rattle.image.specs.Read.{stop_at, kind_at};
-ghost use Rattle.acts.specs.Act.{when, says};
 ghost use Rattle.acts.specs.Laid.{Room};
 ghost use Rattle.acts.specs.Does.{Does};
 ghost use Rattle.comments.specs.Parsed.{given_by};
 ghost use Rattle.layout.specs.Layout.{before_stmt, after_stmt, block_start, let_type};
-ghost use Rattle.layout.specs.Promises.{Has, LaidAs, InImage, Whole};
-ghost use Rattle.layout.specs.Forms.{MaybeTypeAt};
+ghost use Rattle.layout.specs.Promises.{Has, LaidAs};
+ghost use Rattle.layout.specs.Numbers.{HasKind, expr_number};
+ghost use Rattle.comments.specs.Record.{InImage, Whole};
+ghost use Rattle.layout.specs.Forms.{MaybeTypeAt, no_stmts_at, is_empty_at, is_braced, arm_comma_rule, semicolon_rule};
 
-use crate::numbers::{HEAD, is_absent, kind, second};
+use crate::kinds::Expr;
 use crate::pieces::gap;
 use crate::types::type_expr;
 use acts::State;
@@ -19,23 +18,23 @@ use acts::leaves::Leaf;
 use acts::words::Word;
 use comments::parsed::Parsed;
 use comments::{Kept, pop_trailing_comment};
-use image::kinds;
+use image::sizes::HEAD;
 
 // Whether the block at `at` has no statements.
-pub(crate) fn no_stmts(b: &[u8], at: usize) -> bool
-    requires { Whole b.now (at + 13) }
-    ensures { result ≡ eqb (stop_at b.now (at + 13)) (at + 13 + 13) }
+pub(crate) fn no_stmts(parsed: &Parsed<'_>, at: usize) -> bool
+    requires { Whole parsed.now.image.now (at + 13) }
+    ensures { result ≡ no_stmts_at parsed.now.image.now at }
 {
-    second(b, at) == at + HEAD + HEAD
+    parsed.second(at) == at + HEAD + HEAD
 }
 
 // Whether it has no last expression either.
-pub(crate) fn is_empty(b: &[u8], at: usize) -> bool
-    requires whole { Whole b.now (at + 13) }
-    requires in_image { InImage b.now (stop_at b.now (at + 13)) }
-    ensures { result ≡ (eqb (stop_at b.now (at + 13)) (at + 13 + 13) && eqb (be32 b.now (stop_at b.now (at + 13))) 0) }
+pub(crate) fn is_empty(parsed: &Parsed<'_>, at: usize) -> bool
+    requires whole { Whole parsed.now.image.now (at + 13) }
+    requires in_image { InImage parsed.now.image.now (stop_at parsed.now.image.now (at + 13)) }
+    ensures { result ≡ is_empty_at parsed.now.image.now at }
 {
-    no_stmts(b, at) && is_absent(b, second(b, at))
+    no_stmts(parsed, at) && parsed.is_absent(parsed.second(at))
 }
 
 // How a block starts.
@@ -75,35 +74,36 @@ pub(crate) fn after_stmt(state: &mut State<'_>, parsed: &Parsed<'_>, position: u
 }
 
 // The comma after an arm, unless its body, which is at `at`, is a block.
-pub(crate) fn arm_comma(state: &mut State<'_>, image: &[u8], at: usize)
-    requires whole { Whole image.now at }
-    requires room { Room (when (not (eqb (kind_at image.now at) BLOCK_EXPR)) (says ",")) state.old.cursor }
-    ensures { Does (when (not (eqb (kind_at image.now at) BLOCK_EXPR)) (says ",")) state.old state.new }
+pub(crate) fn arm_comma(state: &mut State<'_>, parsed: &Parsed<'_>, at: usize)
+    requires has_kind { HasKind 50 70 parsed.now.image.now at }
+    requires room { Room (arm_comma_rule (kind_at parsed.now.image.now at)) state.old.cursor }
+    ensures { Does (arm_comma_rule (kind_at parsed.now.image.now at)) state.old state.new }
 {
-    if kind(image, at) == kinds::BLOCK_EXPR {
+    if Expr::read(parsed, at) == Expr::Block {
         return;
     }
     state.word(Word::Comma);
 }
 
-// The semicolon after an expression, which is at `at`, unless it ends with a brace: block, match, if, while or for.
-pub(crate) fn semicolon(state: &mut State<'_>, image: &[u8], at: usize)
-    requires whole { Whole image.now at }
-    requires room { Room (when (not (eqb (kind_at image.now at) BLOCK_EXPR || eqb (kind_at image.now at) MATCH || (leb IF_ELSE (kind_at image.now at) && leb (kind_at image.now at) FOR))) (says ";")) state.old.cursor }
-    ensures { Does (when (not (eqb (kind_at image.now at) BLOCK_EXPR || eqb (kind_at image.now at) MATCH || (leb IF_ELSE (kind_at image.now at) && leb (kind_at image.now at) FOR))) (says ";")) state.old state.new }
+// Whether an expression ends with a brace.
+// kept: one `matches!`, over another enum than `has_parts` of renderer.
+fn is_braced(expr: Expr) -> bool
+    ensures { result ≡ is_braced (expr_number expr) }
 {
-    let k = kind(image, at);
-    if k == kinds::BLOCK_EXPR {
-        return;
-    }
-    if k == kinds::MATCH {
-        return;
-    }
-    if k < kinds::IF_ELSE {
-        state.word(Word::Semicolon);
-        return;
-    }
-    if k <= kinds::FOR {
+    matches!(
+        expr,
+        Expr::Block | Expr::Match | Expr::IfElse | Expr::While | Expr::For
+    )
+}
+
+// The semicolon after an expression, which is at `at`, unless it ends with a brace.
+// kept: a fact about the record at `at`, another at each call: no value has it for good. So it is in `arm_comma`, and in `read` of the enums.
+pub(crate) fn semicolon(state: &mut State<'_>, parsed: &Parsed<'_>, at: usize)
+    requires has_kind { HasKind 50 70 parsed.now.image.now at }
+    requires room { Room (semicolon_rule (kind_at parsed.now.image.now at)) state.old.cursor }
+    ensures { Does (semicolon_rule (kind_at parsed.now.image.now at)) state.old state.new }
+{
+    if is_braced(Expr::read(parsed, at)) {
         return;
     }
     state.word(Word::Semicolon);
@@ -114,7 +114,7 @@ pub(crate) fn let_type(state: &mut State<'_>, parsed: &Parsed<'_>, at: usize)
     requires { Has MaybeTypeAt let_type parsed.now at state.old.cursor }
     ensures { LaidAs MaybeTypeAt let_type parsed.now at state.old state.new }
 {
-    if is_absent(parsed.image, at) {
+    if parsed.is_absent(at) {
         return;
     }
     state.word(Word::Colon);

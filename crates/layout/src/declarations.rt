@@ -8,13 +8,14 @@ ghost use Rattle.layout.specs.Layout.{opening, some_type_params, return_type, sh
 ghost use Rattle.layout.specs.Promises.{Has, LaidAs, HasAll, LaidAll};
 ghost use Rattle.layout.specs.Elems.{VariantAt, variant_rule};
 ghost use Rattle.layout.specs.Forms.{two, three, four, five, OfDeclaration, declaration_rule, any_declaration, declares_at, MaybeListAt};
+ghost use Rattle.layout.specs.Forms.{TypeNameAt, declares_type, FunctionNameAt, declares_function};
 ghost use Rattle.layout.specs.Forms.{MaybeTypeAt, MaybeIdentAt, declarations_from};
 
 use crate::forms::{BRACES, ListForm, WrapStyle};
 use crate::idents::type_params;
 use crate::imports::import_path;
+use crate::kinds::Declaration;
 use crate::lists::separated;
-use crate::numbers::{HEAD, end, is_absent, kind, past, second, start, third};
 use crate::paths::ident;
 use crate::pieces::between;
 use crate::types::{params, record_type, type_expr};
@@ -26,7 +27,7 @@ use acts::words::Word;
 use comments::parsed::Parsed;
 use comments::{Kept, pop_whitespace};
 use image::bytes::num16;
-use image::kinds;
+use image::sizes::{HEAD, WIDTH};
 use rows::units::{Bytes, Columns};
 use text::space::trim_end;
 
@@ -49,7 +50,7 @@ fn declares(state: &mut State<'_>, parsed: &Parsed<'_>, at: usize, k: Word, firs
     requires { Has IdentAt (declares_at k first) parsed.now at state.old.cursor }
     ensures { LaidAs IdentAt (declares_at k first) parsed.now at state.old state.new }
 {
-    opening(state, parsed, start(parsed.image, at), first);
+    opening(state, parsed, parsed.start(at), first);
     state.word(k);
     ident(state, parsed, at);
 }
@@ -59,14 +60,37 @@ fn some_type_params(state: &mut State<'_>, parsed: &Parsed<'_>, at: usize)
     requires { Has MaybeListAt some_type_params parsed.now at state.old.cursor }
     ensures { LaidAs MaybeListAt some_type_params parsed.now at state.old state.new }
 {
-    let image = parsed.image;
-    if is_absent(image, at) {
+    if parsed.is_absent(at) {
         return;
     }
-    if at + HEAD == past(image, at) {
+    if at + HEAD == parsed.past(at) {
         return;
     }
     type_params(state, parsed, at);
+}
+
+// The start of `record` and `enum`, whose record is at `at`: the name, and the type parameters.
+// kept: see `declares_function` below.
+fn declares_type(state: &mut State<'_>, parsed: &Parsed<'_>, at: usize, k: Word, first: bool)
+    requires { Has TypeNameAt (declares_type k first) parsed.now at state.old.cursor }
+    ensures { LaidAs TypeNameAt (declares_type k first) parsed.now at state.old state.new }
+{
+    let p = parsed.second(at);
+    declares(state, parsed, at + HEAD, k, first);
+    some_type_params(state, parsed, p);
+    state.word(Word::Space);
+}
+
+// The start of `filtermap` and `fn`, whose record is at `at`: the name, and the parameters.
+// kept: like `declares_type` but for one call; a closure for it would need both clauses.
+fn declares_function(state: &mut State<'_>, parsed: &Parsed<'_>, at: usize, k: Word, first: bool)
+    requires { Has FunctionNameAt (declares_function k first) parsed.now at state.old.cursor }
+    ensures { LaidAs FunctionNameAt (declares_function k first) parsed.now at state.old state.new }
+{
+    let p = parsed.second(at);
+    declares(state, parsed, at + HEAD, k, first);
+    params(state, parsed, p);
+    state.word(Word::Space);
 }
 
 // The type that a function returns, where it says one.
@@ -74,7 +98,7 @@ fn return_type(state: &mut State<'_>, parsed: &Parsed<'_>, at: usize)
     requires { Has MaybeTypeAt return_type parsed.now at state.old.cursor }
     ensures { LaidAs MaybeTypeAt return_type parsed.now at state.old state.new }
 {
-    if is_absent(parsed.image, at) {
+    if parsed.is_absent(at) {
         return;
     }
     state.word(Word::Arrow);
@@ -86,12 +110,8 @@ fn filter_map(state: &mut State<'_>, parsed: &Parsed<'_>, at: usize, first: bool
     requires { Has (OfDeclaration (four filter_map)) (declaration_rule (four filter_map) first) parsed.now at state.old.cursor }
     ensures { LaidAs (OfDeclaration (four filter_map)) (declaration_rule (four filter_map) first) parsed.now at state.old state.new }
 {
-    let image = parsed.image;
-    let p = second(image, at);
-    let q = third(image, at);
-    declares(state, parsed, at + HEAD, Word::FilterMap, first);
-    params(state, parsed, p);
-    state.word(Word::Space);
+    let q = parsed.third(at);
+    declares_function(state, parsed, at, Word::FilterMap, first);
     block(state, parsed, q);
 }
 
@@ -99,9 +119,8 @@ fn constant(state: &mut State<'_>, parsed: &Parsed<'_>, at: usize, first: bool)
     requires { Has (OfDeclaration (three const)) (declaration_rule (three const) first) parsed.now at state.old.cursor }
     ensures { LaidAs (OfDeclaration (three const)) (declaration_rule (three const) first) parsed.now at state.old state.new }
 {
-    let image = parsed.image;
-    let p = second(image, at);
-    let q = third(image, at);
+    let p = parsed.second(at);
+    let q = parsed.third(at);
     declares(state, parsed, at + HEAD, Word::Const, first);
     state.word(Word::Colon);
     type_expr(state, parsed, p);
@@ -114,12 +133,8 @@ fn decl_record(state: &mut State<'_>, parsed: &Parsed<'_>, at: usize, first: boo
     requires { Has (OfDeclaration (four record_decl)) (declaration_rule (four record_decl) first) parsed.now at state.old.cursor }
     ensures { LaidAs (OfDeclaration (four record_decl)) (declaration_rule (four record_decl) first) parsed.now at state.old state.new }
 {
-    let image = parsed.image;
-    let p = second(image, at);
-    let q = third(image, at);
-    declares(state, parsed, at + HEAD, Word::Record, first);
-    some_type_params(state, parsed, p);
-    state.word(Word::Space);
+    let q = parsed.third(at);
+    declares_type(state, parsed, at, Word::Record, first);
     record_type(state, parsed, q, WrapStyle::Wrap);
 }
 
@@ -127,12 +142,8 @@ fn decl_enum(state: &mut State<'_>, parsed: &Parsed<'_>, at: usize, first: bool)
     requires { Has (OfDeclaration (four enum_decl)) (declaration_rule (four enum_decl) first) parsed.now at state.old.cursor }
     ensures { LaidAs (OfDeclaration (four enum_decl)) (declaration_rule (four enum_decl) first) parsed.now at state.old state.new }
 {
-    let image = parsed.image;
-    let p = second(image, at);
-    let q = third(image, at);
-    declares(state, parsed, at + HEAD, Word::Enum, first);
-    some_type_params(state, parsed, p);
-    state.word(Word::Space);
+    let q = parsed.third(at);
+    declares_type(state, parsed, at, Word::Enum, first);
     let form = ListForm {
         style: WrapStyle::Wrap,
         ..BRACES
@@ -141,28 +152,24 @@ fn decl_enum(state: &mut State<'_>, parsed: &Parsed<'_>, at: usize, first: bool)
         requires { Has VariantAt variant_rule parsed.now r inner.old.cursor }
         ensures { LaidAs VariantAt variant_rule parsed.entry.now r inner.old inner.new }
     { variant(inner, parsed, r) };
-    separated(state, parsed, q, end(image, q), form, item);
+    separated(state, parsed, q, parsed.end(q), form, item);
 }
 
 fn function(state: &mut State<'_>, parsed: &Parsed<'_>, at: usize, first: bool)
     requires { Has (OfDeclaration (five function)) (declaration_rule (five function) first) parsed.now at state.old.cursor }
     ensures { LaidAs (OfDeclaration (five function)) (declaration_rule (five function) first) parsed.now at state.old state.new }
 {
-    let image = parsed.image;
-    let p = second(image, at);
-    let q = third(image, at);
-    declares(state, parsed, at + HEAD, Word::Fn, first);
-    params(state, parsed, p);
-    state.word(Word::Space);
+    let q = parsed.third(at);
+    declares_function(state, parsed, at, Word::Fn, first);
     return_type(state, parsed, q);
-    block(state, parsed, past(image, q));
+    block(state, parsed, parsed.past(q));
 }
 
 fn test(state: &mut State<'_>, parsed: &Parsed<'_>, at: usize, first: bool)
     requires { Has (OfDeclaration (two test)) (declaration_rule (two test) first) parsed.now at state.old.cursor }
     ensures { LaidAs (OfDeclaration (two test)) (declaration_rule (two test) first) parsed.now at state.old state.new }
 {
-    let p = second(parsed.image, at);
+    let p = parsed.second(at);
     declares(state, parsed, at + HEAD, Word::Test, first);
     state.word(Word::Space);
     block(state, parsed, p);
@@ -172,7 +179,7 @@ fn decl_import(state: &mut State<'_>, parsed: &Parsed<'_>, at: usize, first: boo
     requires { Has (OfDeclaration import_decl) (declaration_rule import_decl first) parsed.now at state.old.cursor }
     ensures { LaidAs (OfDeclaration import_decl) (declaration_rule import_decl first) parsed.now at state.old state.new }
 {
-    opening(state, parsed, start(parsed.image, at), first);
+    opening(state, parsed, parsed.start(at), first);
     state.word(Word::Import);
     import_path(state, parsed, at);
     state.word(Word::Semicolon);
@@ -184,14 +191,14 @@ pub(crate) fn declaration(state: &mut State<'_>, parsed: &Parsed<'_>, at: usize,
     requires { Has (OfDeclaration any_declaration) (declaration_rule any_declaration first) parsed.now at state.old.cursor }
     ensures { LaidAs (OfDeclaration any_declaration) (declaration_rule any_declaration first) parsed.now at state.old state.new }
 {
-    match kind(parsed.image, at) {
-        kinds::FILTER_MAP => filter_map(state, parsed, at, first),
-        kinds::CONST => constant(state, parsed, at, first),
-        kinds::RECORD => decl_record(state, parsed, at, first),
-        kinds::ENUM => decl_enum(state, parsed, at, first),
-        kinds::FUNCTION => function(state, parsed, at, first),
-        kinds::TEST => test(state, parsed, at, first),
-        _ => decl_import(state, parsed, at, first),
+    match Declaration::read(parsed, at) {
+        Declaration::FilterMap => filter_map(state, parsed, at, first),
+        Declaration::Const => constant(state, parsed, at, first),
+        Declaration::Record => decl_record(state, parsed, at, first),
+        Declaration::Enum => decl_enum(state, parsed, at, first),
+        Declaration::Function => function(state, parsed, at, first),
+        Declaration::Test => test(state, parsed, at, first),
+        Declaration::Import => decl_import(state, parsed, at, first),
     }
 }
 
@@ -201,12 +208,12 @@ pub fn shebang(state: &mut State<'_>, parsed: &Parsed<'_>, at: usize)
     ensures { LaidAs MaybeIdentAt shebang_rule parsed.now at state.old state.new }
 {
     let image = parsed.image;
-    if is_absent(image, at) {
+    if parsed.is_absent(at) {
         return;
     }
-    let from = at + 15;
+    let from = at + (HEAD + WIDTH);
     let width = Columns(num16(image, at + HEAD));
-    let size = Bytes(trim_end(image, from, past(image, at)) - from);
+    let size = Bytes(trim_end(image, from, parsed.past(at)) - from);
     state.push(Leaf::Str {
         start: from as u32,
         size,
@@ -220,13 +227,9 @@ pub fn declarations(state: &mut State<'_>, parsed: &Parsed<'_>, from: usize, to:
     requires { HasAll DeclarationsAt (declarations_from opens) parsed.now from to state.old.cursor }
     ensures { LaidAll DeclarationsAt (declarations_from opens) parsed.now from to state.old state.new }
 {
-    let image = parsed.image;
-    let mut p = from;
     let mut first = opens;
-    // kept: an iterator over records must prove by itself that it ends and that each record lies in the image, which the loop's invariant says already.
-    while p < to {
-        declaration(state, parsed, p, first);
-        p = past(image, p);
+    for at in parsed.records(from, to) {
+        declaration(state, parsed, at, first);
         first = false;
     }
 }

@@ -6,13 +6,13 @@ ghost use Rattle.layout.specs.Promises.{Has, LaidAs};
 ghost use Rattle.layout.specs.Elems.{type_params_rule};
 
 use crate::forms::{BRACKETS, PARENS};
+use crate::kinds::Pattern;
 use crate::lists::separated;
-use crate::numbers::{HEAD, end, is_absent, kind, second};
 use crate::paths::ident;
 use acts::State;
 use acts::words::Word;
 use comments::parsed::Parsed;
-use image::kinds;
+use image::sizes::HEAD;
 
 pub(crate) fn type_params(state: &mut State<'_>, parsed: &Parsed<'_>, at: usize)
     requires { Has ListAt type_params_rule parsed.now at state.old.cursor }
@@ -22,7 +22,7 @@ pub(crate) fn type_params(state: &mut State<'_>, parsed: &Parsed<'_>, at: usize)
         requires { Has IdentAt ident parsed.now p inner.old.cursor }
         ensures { LaidAs IdentAt ident parsed.entry.now p inner.old inner.new }
     { ident(inner, parsed, p) };
-    separated(state, parsed, at, end(parsed.image, at), BRACKETS, name);
+    separated(state, parsed, at, parsed.end(at), BRACKETS, name);
 }
 
 // The pattern of an arm of `r#match`.
@@ -30,19 +30,18 @@ pub(crate) fn pattern(state: &mut State<'_>, parsed: &Parsed<'_>, at: usize)
     requires { Has PatternAt pattern parsed.now at state.old.cursor }
     ensures { LaidAs PatternAt pattern parsed.now at state.old state.new }
 {
-    let image = parsed.image;
-    if kind(image, at) == kinds::UNDERSCORE {
+    if Pattern::read(parsed, at) == Pattern::Underscore {
         state.word(Word::Underscore);
         return;
     }
-    let p = second(image, at);
+    let p = parsed.second(at);
     ident(state, parsed, at + HEAD);
-    if is_absent(image, p) {
+    if parsed.is_absent(p) {
         return;
     }
     let name = |inner: &mut State<'_>, q: usize|
         requires { Has IdentAt ident parsed.now q inner.old.cursor }
         ensures { LaidAs IdentAt ident parsed.entry.now q inner.old inner.new }
     { ident(inner, parsed, q) };
-    separated(state, parsed, p, end(image, p), PARENS, name);
+    separated(state, parsed, p, parsed.end(p), PARENS, name);
 }

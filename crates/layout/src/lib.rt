@@ -1,6 +1,6 @@
 // The layout functions: `State` of fmt.rs from `separated` on. Here are those of expressions, blocks and statements. They call each other,
 // and the record's length falls at each call.
-// kept, here and in the other files of this crate: each function has what it changes, what it reads, and where: the Rust's `self`, which has
+// kept: here and in the other files of this crate: each function has what it changes, what it reads, and where: the Rust's `self`, which has
 // the first two, and its reference to a node. What is read stands beside what is changed, since in one struct each call would have to say
 // again that what it reads is what it was; and with the offset it would be made anew at each call, which only moves the offset.
 #![tactic(auto)]
@@ -11,9 +11,9 @@ pub mod declarations;
 pub mod forms;
 mod idents;
 mod imports;
+mod kinds;
 mod lists;
 mod literals;
-pub mod numbers;
 mod operators;
 mod paths;
 mod pieces;
@@ -39,9 +39,9 @@ use crate::chains::{leftmost, operator, precedence};
 use crate::forms::{BRACES, BRACKETS, ListForm, PARENS, Precedence, WrapStyle};
 use crate::idents::pattern;
 use crate::imports::import_path;
+use crate::kinds::{Expr, FStringPart, Stmt};
 use crate::lists::separated;
 use crate::literals::{content, literal};
-use crate::numbers::{HEAD, end, is_absent, kind, past, second, start, third};
 use crate::operators::{assign_word, return_word};
 use crate::paths::{field_name, ident, path};
 use crate::pieces::gap;
@@ -51,7 +51,7 @@ use acts::parts::Branch;
 use acts::words::Word;
 use comments::parsed::Parsed;
 use comments::{Kept, pop_trailing_comment};
-use image::kinds;
+use image::sizes::HEAD;
 
 #[cycle(expr)]
 pub(crate) fn expr(state: &mut State<'_>, parsed: &Parsed<'_>, at: usize)
@@ -78,54 +78,53 @@ fn form(state: &mut State<'_>, parsed: &Parsed<'_>, at: usize, outer: Precedence
     requires { Has ExprAt (form_with (rank outer)) parsed.now at state.old.cursor }
     ensures { LaidAs ExprAt (form_with (rank outer)) parsed.now at state.old state.new }
 {
-    let image = parsed.image;
-    match kind(image, at) {
-        kinds::RETURN => ret(state, parsed, at),
-        kinds::LITERAL_EXPR => literal(state, parsed, at + HEAD),
-        kinds::BLOCK_EXPR => block(state, parsed, at + HEAD),
-        kinds::MATCH => match_expr(state, parsed, at),
-        kinds::FUNCTION_CALL => call(state, parsed, at, outer),
-        kinds::ACCESS => access(state, parsed, at, outer),
-        kinds::PATH_EXPR => path(state, parsed, at + HEAD, outer < Precedence::Chain, true),
-        kinds::RECORD_EXPR => record(state, parsed, at + HEAD),
-        kinds::TYPED_RECORD => {
+    match Expr::read(parsed, at) {
+        Expr::Return => ret(state, parsed, at),
+        Expr::Literal => literal(state, parsed, at + HEAD),
+        Expr::Block => block(state, parsed, at + HEAD),
+        Expr::Match => match_expr(state, parsed, at),
+        Expr::FunctionCall => call(state, parsed, at, outer),
+        Expr::Access => access(state, parsed, at, outer),
+        Expr::Path => path(state, parsed, at + HEAD, outer < Precedence::Chain, true),
+        Expr::Record => record(state, parsed, at + HEAD),
+        Expr::TypedRecord => {
             path(state, parsed, at + HEAD, true, true);
             state.word(Word::Space);
-            record(state, parsed, second(image, at))
+            record(state, parsed, parsed.second(at))
         }
-        kinds::LIST_EXPR => list(state, parsed, at),
-        kinds::NOT => after(state, parsed, at + HEAD, Word::Not, Precedence::Unit),
-        kinds::ASSIGN => {
+        Expr::List => list(state, parsed, at),
+        Expr::Not => after(state, parsed, at + HEAD, Word::Not, Precedence::Unit),
+        Expr::Assign => {
             path(state, parsed, at + HEAD, true, true);
             after(
                 state,
                 parsed,
-                second(image, at),
+                parsed.second(at),
                 Word::Assign,
                 Precedence::Bottom,
             )
         }
-        kinds::COMPOUND_ASSIGN => {
+        Expr::CompoundAssign => {
             path(state, parsed, at + HEAD, true, true);
             after(
                 state,
                 parsed,
-                third(image, at),
-                assign_word(image, at),
+                parsed.third(at),
+                assign_word(parsed, at),
                 Precedence::Bottom,
             )
         }
-        kinds::BIN_OP => binop(state, parsed, at),
-        kinds::NEGATE => after(state, parsed, at + HEAD, Word::Minus, Precedence::Bottom),
-        kinds::IF_ELSE => if_else(state, parsed, at),
-        kinds::WHILE => cond(state, parsed, at + HEAD, Word::While),
-        kinds::FOR => each(state, parsed, at),
-        kinds::QUESTION_MARK => {
+        Expr::BinOp => binop(state, parsed, at),
+        Expr::Negate => after(state, parsed, at + HEAD, Word::Minus, Precedence::Bottom),
+        Expr::IfElse => if_else(state, parsed, at),
+        Expr::While => cond(state, parsed, at + HEAD, Word::While),
+        Expr::For => each(state, parsed, at),
+        Expr::QuestionMark => {
             expr_with_precedence(state, parsed, at + HEAD, outer);
             state.word(Word::Question)
         }
-        kinds::F_STRING => fstr(state, parsed, at),
-        _ => par(state, parsed, at),
+        Expr::FString => fstr(state, parsed, at),
+        Expr::Parentheses => par(state, parsed, at),
     }
 }
 
@@ -145,7 +144,7 @@ fn maybe(state: &mut State<'_>, parsed: &Parsed<'_>, at: usize, k: Word)
     requires { Has MaybeExprAt (maybe_after k) parsed.now at state.old.cursor }
     ensures { LaidAs MaybeExprAt (maybe_after k) parsed.now at state.old state.new }
 {
-    if is_absent(parsed.image, at) {
+    if parsed.is_absent(at) {
         return;
     }
     after(state, parsed, at, k, Precedence::Bottom);
@@ -164,7 +163,7 @@ fn cond(state: &mut State<'_>, parsed: &Parsed<'_>, at: usize, k: Word)
     state.close(indent);
     state.close(group);
     state.word(Word::Space);
-    block(state, parsed, past(parsed.image, at));
+    block(state, parsed, parsed.past(at));
 }
 
 // `expr_with_precedence`, the arm of `Return`: `return`, `accept` and `reject`.
@@ -173,8 +172,8 @@ fn ret(state: &mut State<'_>, parsed: &Parsed<'_>, at: usize)
     requires { Has (Of (two return')) (form_rule (two return') 0) parsed.now at state.old.cursor }
     ensures { LaidAs (Of (two return')) (form_rule (two return') 0) parsed.now at state.old state.new }
 {
-    state.word(return_word(parsed.image, at));
-    maybe(state, parsed, at + 14, Word::Space);
+    state.word(return_word(parsed, at));
+    maybe(state, parsed, at + (HEAD + 1), Word::Space);
 }
 
 // `r#match`
@@ -183,8 +182,7 @@ fn match_expr(state: &mut State<'_>, parsed: &Parsed<'_>, at: usize)
     requires { Has (Of (three match')) (form_rule (three match') 0) parsed.now at state.old.cursor }
     ensures { LaidAs (Of (three match')) (form_rule (three match') 0) parsed.now at state.old state.new }
 {
-    let image = parsed.image;
-    let p = second(image, at);
+    let p = parsed.second(at);
     state.word(Word::Match);
     expr(state, parsed, at + HEAD);
     state.word(Word::Space);
@@ -197,7 +195,7 @@ fn match_expr(state: &mut State<'_>, parsed: &Parsed<'_>, at: usize)
         requires { Has ArmAt arm_rule parsed.now q inner.old.cursor }
         ensures { LaidAs ArmAt arm_rule parsed.entry.now q inner.old inner.new }
     { arm(inner, parsed, q) };
-    separated(state, parsed, p, end(image, p), form, one_arm);
+    separated(state, parsed, p, parsed.end(p), form, one_arm);
 }
 
 // `expr_with_precedence`, the arm of `List`.
@@ -210,14 +208,7 @@ fn list(state: &mut State<'_>, parsed: &Parsed<'_>, at: usize)
         requires { Has ExprAt grouped_rule parsed.now p inner.old.cursor }
         ensures { LaidAs ExprAt grouped_rule parsed.entry.now p inner.old inner.new }
     { grouped(inner, parsed, p) };
-    separated(
-        state,
-        parsed,
-        at + HEAD,
-        end(parsed.image, at),
-        BRACKETS,
-        element,
-    );
+    separated(state, parsed, at + HEAD, parsed.end(at), BRACKETS, element);
 }
 
 // The closure of a list: an element, in a group of its own.
@@ -237,14 +228,13 @@ fn arm(state: &mut State<'_>, parsed: &Parsed<'_>, at: usize)
     requires { Has ArmAt arm_rule parsed.now at state.old.cursor }
     ensures { LaidAs ArmAt arm_rule parsed.now at state.old state.new }
 {
-    let image = parsed.image;
-    let p = second(image, at);
-    let q = third(image, at);
+    let p = parsed.second(at);
+    let q = parsed.third(at);
     pattern(state, parsed, at + HEAD);
     maybe(state, parsed, p, Word::Guard);
     state.word(Word::FatArrow);
     expr(state, parsed, q);
-    arm_comma(state, image, q);
+    arm_comma(state, parsed, q);
 }
 
 // `expr_with_precedence`, the arm of `FunctionCall`, whose precedence is `Chain`. The numbers of its `Call` row are taken before its parts.
@@ -253,7 +243,7 @@ fn call(state: &mut State<'_>, parsed: &Parsed<'_>, at: usize, outer: Precedence
     requires { Has (Of (three function_call)) (form_rule (three function_call) (rank outer)) parsed.now at state.old.cursor }
     ensures { LaidAs (Of (three function_call)) (form_rule (three function_call) (rank outer)) parsed.now at state.old state.new }
 {
-    let p = second(parsed.image, at);
+    let p = parsed.second(at);
     if outer < Precedence::Chain {
         let call = state.open(Branch::Call);
         expr_with_precedence(state, parsed, at + HEAD, Precedence::Chain);
@@ -277,7 +267,7 @@ fn function_args(state: &mut State<'_>, parsed: &Parsed<'_>, at: usize)
         requires { Has ExprAt expr_rule parsed.now p inner.old.cursor }
         ensures { LaidAs ExprAt expr_rule parsed.entry.now p inner.old inner.new }
     { expr(inner, parsed, p) };
-    separated(state, parsed, at, end(parsed.image, at), PARENS, argument);
+    separated(state, parsed, at, parsed.end(at), PARENS, argument);
 }
 
 // `access`, and the arm of `Access`, whose precedence is `Chain`.
@@ -286,7 +276,7 @@ fn access(state: &mut State<'_>, parsed: &Parsed<'_>, at: usize, outer: Preceden
     requires { Has (Of (two access)) (form_rule (two access) (rank outer)) parsed.now at state.old.cursor }
     ensures { LaidAs (Of (two access)) (form_rule (two access) (rank outer)) parsed.now at state.old state.new }
 {
-    let p = second(parsed.image, at);
+    let p = parsed.second(at);
     if outer < Precedence::Chain {
         let group = state.open(Branch::Group);
         let indent = state.open(Branch::IndentNext);
@@ -313,7 +303,7 @@ fn record(state: &mut State<'_>, parsed: &Parsed<'_>, at: usize)
         requires { Has EntryAt entry_rule parsed.now p inner.old.cursor }
         ensures { LaidAs EntryAt entry_rule parsed.entry.now p inner.old inner.new }
     { entry(inner, parsed, p) };
-    separated(state, parsed, at, end(parsed.image, at), form, named);
+    separated(state, parsed, at, parsed.end(at), form, named);
 }
 
 // The closure of `record`: a name and its value.
@@ -323,7 +313,7 @@ fn entry(state: &mut State<'_>, parsed: &Parsed<'_>, at: usize)
     requires { Has EntryAt entry_rule parsed.now at state.old.cursor }
     ensures { LaidAs EntryAt entry_rule parsed.now at state.old state.new }
 {
-    let p = second(parsed.image, at);
+    let p = parsed.second(at);
     ident(state, parsed, at + HEAD);
     state.word(Word::Colon);
     expr(state, parsed, p);
@@ -335,10 +325,9 @@ fn binop(state: &mut State<'_>, parsed: &Parsed<'_>, at: usize)
     requires { Has (Of (four bin_op)) (form_rule (four bin_op) 0) parsed.now at state.old.cursor }
     ensures { LaidAs (Of (four bin_op)) (form_rule (four bin_op) 0) parsed.now at state.old state.new }
 {
-    let image = parsed.image;
-    let q = precedence(image, at);
+    let q = precedence(parsed, at);
     let mut ops = [0usize; 64];
-    let left = leftmost(image, at, q, &mut ops);
+    let left = leftmost(parsed, at, q, &mut ops);
     let group = state.open(Branch::Group);
     expr_with_precedence(state, parsed, left, q);
     state.push(Leaf::LineOrSpace);
@@ -354,12 +343,13 @@ fn tail(state: &mut State<'_>, parsed: &Parsed<'_>, at: usize, left: usize, ops:
     requires { HasTail parsed.now at left ops.now state.old.cursor }
     ensures { LaidTail parsed.now at left ops.now state.old state.new }
 {
-    let image = parsed.image;
+    // kept: by the number: document 01 names an array of 64, and how many of its places are used follows from the two offsets, a head for each
+    // operator.
     let mut first = true;
     for n in (0..(left - at) / HEAD).rev() {
         let p = ops[n];
-        operator(state, parsed, second(image, p), first);
-        expr(state, parsed, third(image, p));
+        operator(state, parsed, parsed.second(p), first);
+        expr(state, parsed, parsed.third(p));
         first = false;
     }
 }
@@ -370,10 +360,9 @@ fn if_else(state: &mut State<'_>, parsed: &Parsed<'_>, at: usize)
     requires { Has (Of (three if_else)) (form_rule (three if_else) 0) parsed.now at state.old.cursor }
     ensures { LaidAs (Of (three if_else)) (form_rule (three if_else) 0) parsed.now at state.old state.new }
 {
-    let image = parsed.image;
-    let p = third(image, at);
+    let p = parsed.third(at);
     cond(state, parsed, at + HEAD, Word::If);
-    if is_absent(image, p) {
+    if parsed.is_absent(p) {
         return;
     }
     state.word(Word::Else);
@@ -386,7 +375,7 @@ fn each(state: &mut State<'_>, parsed: &Parsed<'_>, at: usize)
     requires { Has (Of (three for)) (form_rule (three for) 0) parsed.now at state.old.cursor }
     ensures { LaidAs (Of (three for)) (form_rule (three for) 0) parsed.now at state.old state.new }
 {
-    let p = second(parsed.image, at);
+    let p = parsed.second(at);
     state.word(Word::For);
     ident(state, parsed, at + HEAD);
     cond(state, parsed, p, Word::In);
@@ -398,10 +387,9 @@ fn fstr(state: &mut State<'_>, parsed: &Parsed<'_>, at: usize)
     requires { Has (Of f_string) (form_rule f_string 0) parsed.now at state.old.cursor }
     ensures { LaidAs (Of f_string) (form_rule f_string 0) parsed.now at state.old state.new }
 {
-    let image = parsed.image;
-    gap(state, parsed, start(image, at), &Kept::AROUND_COMMENTS);
+    gap(state, parsed, parsed.start(at), &Kept::AROUND_COMMENTS);
     state.word(Word::FQuote);
-    parts(state, parsed, at + HEAD + HEAD, second(image, at));
+    parts(state, parsed, at + HEAD + HEAD, parsed.second(at));
     state.word(Word::Quote);
 }
 
@@ -411,12 +399,8 @@ fn parts(state: &mut State<'_>, parsed: &Parsed<'_>, from: usize, to: usize)
     requires { HasAll PartsAt parts_rule parsed.now from to state.old.cursor }
     ensures { LaidAll PartsAt parts_rule parsed.now from to state.old state.new }
 {
-    let image = parsed.image;
-    let mut p = from;
-    // kept: an iterator over records must prove by itself that it ends and that each record lies in the image, which the loop's invariant says already.
-    while p < to {
-        part(state, parsed, p);
-        p = past(image, p);
+    for at in parsed.records(from, to) {
+        part(state, parsed, at);
     }
 }
 
@@ -426,7 +410,7 @@ fn part(state: &mut State<'_>, parsed: &Parsed<'_>, at: usize)
     requires { Has PartAt part_rule parsed.now at state.old.cursor }
     ensures { LaidAs PartAt part_rule parsed.now at state.old state.new }
 {
-    if kind(parsed.image, at) == kinds::TEXT_PART {
+    if FStringPart::read(parsed, at) == FStringPart::String {
         content(state, parsed, at);
         return;
     }
@@ -441,12 +425,7 @@ fn par(state: &mut State<'_>, parsed: &Parsed<'_>, at: usize)
     requires { Has (Of parentheses) (form_rule parentheses 0) parsed.now at state.old.cursor }
     ensures { LaidAs (Of parentheses) (form_rule parentheses 0) parsed.now at state.old state.new }
 {
-    gap(
-        state,
-        parsed,
-        start(parsed.image, at),
-        &Kept::AROUND_COMMENTS,
-    );
+    gap(state, parsed, parsed.start(at), &Kept::AROUND_COMMENTS);
     state.word(Word::ParenOpen);
     expr(state, parsed, at + HEAD);
     state.word(Word::ParenClose);
@@ -457,10 +436,9 @@ fn block(state: &mut State<'_>, parsed: &Parsed<'_>, at: usize)
     requires { Has BlockAt block_rule parsed.now at state.old.cursor }
     ensures { LaidAs BlockAt block_rule parsed.now at state.old state.new }
 {
-    let image = parsed.image;
-    let p = second(image, at);
-    let none = no_stmts(image, at);
-    let empty = is_empty(image, at);
+    let p = parsed.second(at);
+    let none = no_stmts(parsed, at);
+    let empty = is_empty(parsed, at);
     let group = state.open(Branch::Group);
     block_start(state, empty);
     let indent = state.open(Branch::Indent);
@@ -470,7 +448,7 @@ fn block(state: &mut State<'_>, parsed: &Parsed<'_>, at: usize)
         leading: !empty,
         ..Kept::NONE
     };
-    gap(state, parsed, end(image, at), &kept);
+    gap(state, parsed, parsed.end(at), &kept);
     state.close(indent);
     state.push(Leaf::Line);
     state.word(Word::BraceClose);
@@ -483,15 +461,11 @@ fn stmts(state: &mut State<'_>, parsed: &Parsed<'_>, from: usize, to: usize)
     requires { HasAll StmtsAt (stmts_from true) parsed.now from to state.old.cursor }
     ensures { LaidAll StmtsAt (stmts_from true) parsed.now from to state.old state.new }
 {
-    let image = parsed.image;
-    let mut p = from;
     let mut first = true;
-    // kept: an iterator over records must prove by itself that it ends and that each record lies in the image, which the loop's invariant says already.
-    while p < to {
-        before_stmt(state, parsed, start(image, p), first);
-        stmt(state, parsed, p);
-        after_stmt(state, parsed, end(image, p));
-        p = past(image, p);
+    for at in parsed.records(from, to) {
+        before_stmt(state, parsed, parsed.start(at), first);
+        stmt(state, parsed, at);
+        after_stmt(state, parsed, parsed.end(at));
         first = false;
     }
 }
@@ -502,11 +476,10 @@ fn last(state: &mut State<'_>, parsed: &Parsed<'_>, at: usize, first: bool)
     requires { Has MaybeExprAt (last_from first) parsed.now at state.old.cursor }
     ensures { LaidAs MaybeExprAt (last_from first) parsed.now at state.old state.new }
 {
-    let image = parsed.image;
-    if is_absent(image, at) {
+    if parsed.is_absent(at) {
         return;
     }
-    before_stmt(state, parsed, start(image, at), first);
+    before_stmt(state, parsed, parsed.start(at), first);
     expr(state, parsed, at);
     pop_trailing_comment(state, parsed);
 }
@@ -517,18 +490,17 @@ fn stmt(state: &mut State<'_>, parsed: &Parsed<'_>, at: usize)
     requires { Has StmtAt stmt_rule parsed.now at state.old.cursor }
     ensures { LaidAs StmtAt stmt_rule parsed.now at state.old state.new }
 {
-    let image = parsed.image;
-    match kind(image, at) {
-        kinds::LET => bind(state, parsed, at),
-        kinds::IMPORT_STMT => {
+    match Stmt::read(parsed, at) {
+        Stmt::Let => bind(state, parsed, at),
+        Stmt::Import => {
             state.word(Word::Import);
             import_path(state, parsed, at + HEAD);
             state.word(Word::Semicolon)
         }
-        _ => {
+        Stmt::Expr => {
             let group = state.open(Branch::Group);
             expr(state, parsed, at + HEAD);
-            semicolon(state, image, at + HEAD);
+            semicolon(state, parsed, at + HEAD);
             state.close(group);
         }
     }
@@ -540,9 +512,8 @@ fn bind(state: &mut State<'_>, parsed: &Parsed<'_>, at: usize)
     requires { Has LetAt let_rule parsed.now at state.old.cursor }
     ensures { LaidAs LetAt let_rule parsed.now at state.old state.new }
 {
-    let image = parsed.image;
-    let p = second(image, at);
-    let q = third(image, at);
+    let p = parsed.second(at);
+    let q = parsed.third(at);
     state.word(Word::Let);
     ident(state, parsed, at + HEAD);
     let_type(state, parsed, p);

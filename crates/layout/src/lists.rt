@@ -3,11 +3,11 @@ ghost use Rattle.std.specs.Prelude.{true};
 ghost use Rattle.layout.specs.Elems.{Laying, HasList, LaidList};
 
 use crate::forms::ListForm;
-use crate::numbers::{HEAD, past, start};
 use crate::pieces::{before_elem, close_list, empty_list, end_elems, open_list};
 use acts::State;
 use acts::parts::Branch;
 use comments::parsed::Parsed;
+use image::sizes::HEAD;
 
 // The list at `at`, whose span ends at `to`; f lays an element.
 pub(crate) fn separated<F: Fn(&mut State<'_>, usize)>(
@@ -21,8 +21,7 @@ pub(crate) fn separated<F: Fn(&mut State<'_>, usize)>(
     requires { HasList (Laying F.Fn f) form to parsed.now at state.old.cursor }
     ensures { LaidList (Laying F.Fn f) form to parsed.now at state.old state.new }
 {
-    let image = parsed.image;
-    let last = past(image, at);
+    let last = parsed.past(at);
     if at + HEAD == last {
         empty_list(state, parsed, to, form);
         return;
@@ -31,13 +30,11 @@ pub(crate) fn separated<F: Fn(&mut State<'_>, usize)>(
     let group = state.open(Branch::Group);
     open_list(state, form);
     let indent = state.open(Branch::Indent);
-    let mut p = at + HEAD;
+    // kept: here and in the crate's other loops `first` is the Rust's; `enumerate` would count elements, and only 0 would be asked for.
     let mut first = true;
-    // kept: an iterator over records must prove by itself that it ends and that each record lies in the image, which the loop's invariant says already.
-    while p < last {
-        before_elem(state, parsed, start(image, p), first, form.commas);
+    for p in parsed.records(at + HEAD, last) {
+        before_elem(state, parsed, parsed.start(p), first, form.commas);
         f(state, p);
-        p = past(image, p);
         first = false;
     }
     end_elems(state, parsed, to, id, form.commas);

@@ -3,7 +3,6 @@
 ghost use Rattle.layout.specs.Promises.{Has, LaidAs};
 ghost use Rattle.layout.specs.Forms.{SpanAt, content_rule, LiteralAt, literal_of};
 
-use crate::numbers::{end, payload, start};
 use crate::pieces::gap;
 use acts::State;
 use acts::leaves::Leaf;
@@ -17,21 +16,20 @@ pub(crate) fn content(state: &mut State<'_>, parsed: &Parsed<'_>, at: usize)
     requires { Has SpanAt content_rule parsed.now at state.old.cursor }
     ensures { LaidAs SpanAt content_rule parsed.now at state.old state.new }
 {
-    let image = parsed.image;
-    let from = start(image, at);
-    let to = end(image, at);
+    let from = parsed.start(at);
+    let to = parsed.end(at);
     let size = Bytes((to - from) as usize);
     state.push(Leaf::Ascii { start: from, size });
 }
 
+// kept: the number of the literal's kind is looked at here alone; an enum would be read from it by the same four arms that match it.
 pub(crate) fn literal(state: &mut State<'_>, parsed: &Parsed<'_>, at: usize)
     requires { Has LiteralAt literal_of parsed.now at state.old.cursor }
     ensures { LaidAs LiteralAt literal_of parsed.now at state.old state.new }
 {
-    let image = parsed.image;
-    let position = end(image, at);
+    let position = parsed.end(at);
     gap(state, parsed, position, &Kept::AROUND_COMMENTS);
-    match payload(image, at) {
+    match parsed.payload(at) {
         0 => content(state, parsed, at),
         1 => state.word(Word::True),
         2 => state.word(Word::False),

@@ -1,75 +1,113 @@
-// The words and the precedences of operators, by their numbers in the image.
-ghost use Rattle.std.specs.Prelude.{◌≡◌, ◌+◌, ◌<◌, ◌≤◌, get_or, length};
-ghost use Rattle.image.specs.Read.{stop_at};
-ghost use Rattle.acts.specs.Spelling.{spelling};
-ghost use Rattle.layout.specs.Layout.{symbol, assign_symbol, return_word, binop_precedence};
-ghost use Rattle.layout.specs.Promises.{InImage};
-ghost use Rattle.layout.specs.Ranks.{rank};
-
+// Operators, and the words and precedences that go with them.
 use crate::forms::Precedence;
-use crate::numbers::{payload, second};
 use acts::words::Word;
+use comments::parsed::Parsed;
 
-// In the order of `BinOp`.
-static PRECEDENCES: [Precedence; 14] = [
-    Precedence::LogicalAnd,
-    Precedence::LogicalOr,
-    Precedence::Comparison,
-    Precedence::Comparison,
-    Precedence::Comparison,
-    Precedence::Comparison,
-    Precedence::Comparison,
-    Precedence::Comparison,
-    Precedence::AddSub,
-    Precedence::AddSub,
-    Precedence::MulDiv,
-    Precedence::MulDiv,
-    Precedence::MulDiv,
-    Precedence::Exp,
-];
+// `BinOp`, its variants in order.
+#[derive(Clone, Copy, Debug, PartialEq, Eq)]
+pub(crate) enum BinOp {
+    And,
+    Or,
+    Eq,
+    Ne,
+    Lt,
+    Le,
+    Gt,
+    Ge,
+    Add,
+    Sub,
+    Mul,
+    Div,
+    Mod,
+    Exp,
+}
 
-static SYMBOLS: [Word; 14] = [
-    Word::And,
-    Word::Or,
-    Word::Equal,
-    Word::NotEqual,
-    Word::Less,
-    Word::LessOrEqual,
-    Word::Greater,
-    Word::GreaterOrEqual,
-    Word::Plus,
-    Word::Minus,
-    Word::Star,
-    Word::Slash,
-    Word::Percent,
-    Word::StarStar,
-];
+impl BinOp {
+    ghost use Rattle.std.specs.Prelude.{◌≡◌, ◌<◌};
+    ghost use Rattle.acts.specs.Spelling.{spelling};
+    ghost use Rattle.layout.specs.Layout.{symbol, binop_precedence};
+    ghost use Rattle.layout.specs.Ranks.{rank, operator_number};
 
-pub(crate) fn binop_precedence(op: usize) -> Precedence
-    ensures { rank result ≡ binop_precedence op }
-{
-    if op < 14 {
-        return PRECEDENCES[op];
+    // The operator with the number in the image.
+    pub(crate) fn of(number: usize) -> BinOp
+        requires { number < 14 }
+        ensures { operator_number result ≡ number }
+    {
+        match number {
+            0 => BinOp::And,
+            1 => BinOp::Or,
+            2 => BinOp::Eq,
+            3 => BinOp::Ne,
+            4 => BinOp::Lt,
+            5 => BinOp::Le,
+            6 => BinOp::Gt,
+            7 => BinOp::Ge,
+            8 => BinOp::Add,
+            9 => BinOp::Sub,
+            10 => BinOp::Mul,
+            11 => BinOp::Div,
+            12 => BinOp::Mod,
+            _ => BinOp::Exp,
+        }
     }
-    Precedence::Bottom
+
+    // `binop_precedence`
+    pub(crate) fn precedence(self) -> Precedence
+        ensures { rank result ≡ binop_precedence (operator_number self) }
+    {
+        match self {
+            BinOp::And => Precedence::LogicalAnd,
+            BinOp::Or => Precedence::LogicalOr,
+            BinOp::Eq => Precedence::Comparison,
+            BinOp::Ne => Precedence::Comparison,
+            BinOp::Lt => Precedence::Comparison,
+            BinOp::Le => Precedence::Comparison,
+            BinOp::Gt => Precedence::Comparison,
+            BinOp::Ge => Precedence::Comparison,
+            BinOp::Add => Precedence::AddSub,
+            BinOp::Sub => Precedence::AddSub,
+            BinOp::Mul => Precedence::MulDiv,
+            BinOp::Div => Precedence::MulDiv,
+            BinOp::Mod => Precedence::MulDiv,
+            BinOp::Exp => Precedence::Exp,
+        }
+    }
+
+    // The word of `binop`.
+    pub(crate) fn symbol(self) -> Word
+        ensures { spelling result ≡ symbol (operator_number self) }
+    {
+        match self {
+            BinOp::And => Word::And,
+            BinOp::Or => Word::Or,
+            BinOp::Eq => Word::Equal,
+            BinOp::Ne => Word::NotEqual,
+            BinOp::Lt => Word::Less,
+            BinOp::Le => Word::LessOrEqual,
+            BinOp::Gt => Word::Greater,
+            BinOp::Ge => Word::GreaterOrEqual,
+            BinOp::Add => Word::Plus,
+            BinOp::Sub => Word::Minus,
+            BinOp::Mul => Word::Star,
+            BinOp::Div => Word::Slash,
+            BinOp::Mod => Word::Percent,
+            BinOp::Exp => Word::StarStar,
+        }
+    }
 }
 
-// The symbol of an operator.
-pub(crate) fn symbol(op: usize) -> Word
-    requires { op < 14 }
-    ensures { spelling result ≡ symbol op }
-{
-    SYMBOLS[op]
-}
+ghost use Rattle.std.specs.Prelude.{◌≡◌, ◌+◌, ◌<◌, ◌≤◌, get_or, length};
+ghost use Rattle.acts.specs.Spelling.{spelling};
+ghost use Rattle.layout.specs.Layout.{assign_symbol, return_word};
+ghost use Rattle.layout.specs.Chains.{HasOperator, operator_of};
 
 // The symbol of the compound assignment at `at`.
-pub(crate) fn assign_word(b: &[u8], at: usize) -> Word
-    requires in_image { InImage b.now (at + 13) }
-    requires at_in_bounds { stop_at b.now (at + 13) + 14 ≤ length b.now }
-    requires at_bound { get_or b.now (stop_at b.now (at + 13) + 13) 0 < 5 }
-    ensures { spelling result ≡ assign_symbol (get_or b.now (stop_at b.now (at + 13) + 13) 0) }
+// kept: here and below: each number is looked at once, for its word; an enum between them would be a second match on the same few cases.
+pub(crate) fn assign_word(parsed: &Parsed<'_>, at: usize) -> Word
+    requires { HasOperator parsed.now.image.now at 5 }
+    ensures { spelling result ≡ assign_symbol (operator_of parsed.now.image.now at) }
 {
-    match payload(b, second(b, at)) {
+    match parsed.payload(parsed.second(at)) {
         0 => Word::AddAssign,
         1 => Word::SubAssign,
         2 => Word::MulAssign,
@@ -79,12 +117,12 @@ pub(crate) fn assign_word(b: &[u8], at: usize) -> Word
 }
 
 // `return`, `accept` or `reject`, as the expression at `at` says.
-pub(crate) fn return_word(b: &[u8], at: usize) -> Word
-    requires at_in_bounds { at + 14 ≤ length b.now }
-    requires at_bound { get_or b.now (at + 13) 0 < 3 }
-    ensures { spelling result ≡ return_word (get_or b.now (at + 13) 0) }
+pub(crate) fn return_word(parsed: &Parsed<'_>, at: usize) -> Word
+    requires at_in_bounds { at + 14 ≤ length parsed.now.image.now }
+    requires at_bound { get_or parsed.now.image.now (at + 13) 0 < 3 }
+    ensures { spelling result ≡ return_word (get_or parsed.now.image.now (at + 13) 0) }
 {
-    match payload(b, at) {
+    match parsed.payload(at) {
         0 => Word::Return,
         1 => Word::Accept,
         _ => Word::Reject,

@@ -9,7 +9,6 @@ ghost use Rattle.layout.specs.Layout.{ident, path_next, path_more, path_rule};
 ghost use Rattle.layout.specs.Promises.{Has, LaidAs, HasAll, LaidAll};
 ghost use Rattle.layout.specs.Forms.{field_name};
 
-use crate::numbers::{HEAD, end, past, second};
 use crate::pieces::gap;
 use acts::State;
 use acts::leaves::Leaf;
@@ -18,6 +17,7 @@ use acts::words::Word;
 use comments::parsed::Parsed;
 use comments::{Kept, pop_trailing_comment};
 use image::bytes::num16;
+use image::sizes::{HEAD, WIDTH};
 use rows::units::{Bytes, Columns};
 
 // `Node::ident`: the text at `at`, with its width.
@@ -26,9 +26,9 @@ pub(crate) fn ident(state: &mut State<'_>, parsed: &Parsed<'_>, at: usize)
     ensures { LaidAs IdentAt ident parsed.now at state.old state.new }
 {
     let image = parsed.image;
-    let from = at + 15;
+    let from = at + (HEAD + WIDTH);
     let width = Columns(num16(image, at + HEAD));
-    let size = Bytes(past(image, at) - from);
+    let size = Bytes(parsed.past(at) - from);
     state.push(Leaf::Str {
         start: from as u32,
         size,
@@ -37,13 +37,13 @@ pub(crate) fn ident(state: &mut State<'_>, parsed: &Parsed<'_>, at: usize)
 }
 
 // A line, where line breaks are allowed.
+// kept: the flag is `allow_line_breaks` of the Rust, which the caller has as a flag and not as a step.
 fn line_if(state: &mut State<'_>, breaks: bool)
     requires { Room (when breaks (push line)) state.old.cursor }
     ensures { Does (when breaks (push line)) state.old state.new }
 {
     if breaks {
         state.push(Leaf::Line);
-        return;
     }
 }
 
@@ -52,7 +52,7 @@ fn path_next(state: &mut State<'_>, parsed: &Parsed<'_>, at: usize, breaks: bool
     requires { Has IdentAt (λ g. path_next g breaks) parsed.now at state.old.cursor }
     ensures { LaidAs IdentAt (λ g. path_next g breaks) parsed.now at state.old state.new }
 {
-    let position = end(parsed.image, at);
+    let position = parsed.end(at);
     line_if(state, breaks);
     gap(state, parsed, position, &Kept::NONE);
     state.word(Word::Dot);
@@ -64,22 +64,18 @@ fn path_more(state: &mut State<'_>, parsed: &Parsed<'_>, from: usize, to: usize,
     requires { HasAll IdentsAt (λ g. path_more g breaks) parsed.now from to state.old.cursor }
     ensures { LaidAll IdentsAt (λ g. path_more g breaks) parsed.now from to state.old state.new }
 {
-    let image = parsed.image;
-    let mut p = from;
-    // kept: an iterator over records must prove by itself that it ends and that each record lies in the image, which the loop's invariant says already.
-    while p < to {
-        path_next(state, parsed, p, breaks);
-        p = past(image, p);
+    for at in parsed.records(from, to) {
+        path_next(state, parsed, at, breaks);
     }
 }
 
+// kept: `path` of the Rust has both flags, `group` and `allow_line_breaks`, and tests them where the code here does.
 pub(crate) fn path(state: &mut State<'_>, parsed: &Parsed<'_>, at: usize, group: bool, breaks: bool)
     requires { Has PathAt (λ g p. path_rule g p group breaks) parsed.now at state.old.cursor }
     ensures { LaidAs PathAt (λ g p. path_rule g p group breaks) parsed.now at state.old state.new }
 {
-    let image = parsed.image;
-    let from = second(image, at);
-    let to = past(image, at);
+    let from = parsed.second(at);
+    let to = parsed.past(at);
     if group {
         let group = state.open(Branch::Group);
         ident(state, parsed, at + HEAD);

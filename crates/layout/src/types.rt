@@ -9,13 +9,13 @@ ghost use Rattle.layout.specs.Elems.{FieldAt, field_rule, ListWith, params_rule,
 ghost use Rattle.layout.specs.Forms.{two, OfType, type_rule};
 
 use crate::forms::{BRACES, BRACKETS, ListForm, PARENS, WrapStyle};
+use crate::kinds::TypeExpr;
 use crate::lists::separated;
-use crate::numbers::{HEAD, end, is_absent, kind, second};
 use crate::paths::{ident, path};
 use acts::State;
 use acts::words::Word;
 use comments::parsed::Parsed;
-use image::kinds;
+use image::sizes::HEAD;
 
 // kept: a choice by what stands in the tree, as in the Rust.
 #[cycle(type_expr)]
@@ -23,15 +23,15 @@ pub(crate) fn type_expr(state: &mut State<'_>, parsed: &Parsed<'_>, at: usize)
     requires { Has TypeAt type_expr parsed.now at state.old.cursor }
     ensures { LaidAs TypeAt type_expr parsed.now at state.old state.new }
 {
-    match kind(parsed.image, at) {
-        kinds::OPTION => {
+    match TypeExpr::read(parsed, at) {
+        TypeExpr::Option => {
             type_expr(state, parsed, at + HEAD);
             state.word(Word::Question)
         }
-        kinds::TYPE_PATH => type_path(state, parsed, at),
-        kinds::NEVER => state.word(Word::Not),
-        kinds::UNIT => state.word(Word::Unit),
-        _ => record_type(state, parsed, at + HEAD, WrapStyle::Tight),
+        TypeExpr::Path => type_path(state, parsed, at),
+        TypeExpr::Never => state.word(Word::Not),
+        TypeExpr::Unit => state.word(Word::Unit),
+        TypeExpr::Record => record_type(state, parsed, at + HEAD, WrapStyle::Tight),
     }
 }
 
@@ -41,17 +41,16 @@ fn type_path(state: &mut State<'_>, parsed: &Parsed<'_>, at: usize)
     requires { Has (OfType (two type_path)) (type_rule (two type_path)) parsed.now at state.old.cursor }
     ensures { LaidAs (OfType (two type_path)) (type_rule (two type_path)) parsed.now at state.old state.new }
 {
-    let image = parsed.image;
-    let p = second(image, at);
+    let p = parsed.second(at);
     path(state, parsed, at + HEAD, true, true);
-    if is_absent(image, p) {
+    if parsed.is_absent(p) {
         return;
     }
     let argument = |inner: &mut State<'_>, q: usize|
         requires { Has TypeAt type_expr parsed.now q inner.old.cursor }
         ensures { LaidAs TypeAt type_expr parsed.entry.now q inner.old inner.new }
     { type_expr(inner, parsed, q) };
-    separated(state, parsed, p, end(image, p), BRACKETS, argument);
+    separated(state, parsed, p, parsed.end(p), BRACKETS, argument);
 }
 
 #[cycle(type_expr)]
@@ -64,21 +63,23 @@ pub(crate) fn record_type(state: &mut State<'_>, parsed: &Parsed<'_>, at: usize,
         requires { Has FieldAt field_rule parsed.now p inner.old.cursor }
         ensures { LaidAs FieldAt field_rule parsed.entry.now p inner.old inner.new }
     { field(inner, parsed, p) };
-    separated(state, parsed, at, end(parsed.image, at), form, named);
+    separated(state, parsed, at, parsed.end(at), form, named);
 }
 
 // The closure of `params` and `record_type`: a name and its type.
+// kept: like `entry` of lib.rt but for what comes behind the colon.
 #[cycle(type_expr)]
 fn field(state: &mut State<'_>, parsed: &Parsed<'_>, at: usize)
     requires { Has FieldAt field_rule parsed.now at state.old.cursor }
     ensures { LaidAs FieldAt field_rule parsed.now at state.old state.new }
 {
-    let p = second(parsed.image, at);
+    let p = parsed.second(at);
     ident(state, parsed, at + HEAD);
     state.word(Word::Colon);
     type_expr(state, parsed, p);
 }
 
+// kept: like `function_args` of lib.rt but for the element.
 pub(crate) fn params(state: &mut State<'_>, parsed: &Parsed<'_>, at: usize)
     requires { Has (ListWith LIST FieldsAt) params_rule parsed.now at state.old.cursor }
     ensures { LaidAs (ListWith LIST FieldsAt) params_rule parsed.now at state.old state.new }
@@ -87,5 +88,5 @@ pub(crate) fn params(state: &mut State<'_>, parsed: &Parsed<'_>, at: usize)
         requires { Has FieldAt field_rule parsed.now p inner.old.cursor }
         ensures { LaidAs FieldAt field_rule parsed.entry.now p inner.old inner.new }
     { field(inner, parsed, p) };
-    separated(state, parsed, at, end(parsed.image, at), PARENS, named);
+    separated(state, parsed, at, parsed.end(at), PARENS, named);
 }

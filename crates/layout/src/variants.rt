@@ -8,25 +8,22 @@ ghost use Rattle.layout.specs.Forms.{SomeTypesAt, LastEnd};
 
 use crate::forms::PARENS;
 use crate::lists::separated;
-use crate::numbers::{HEAD, end, past, second};
 use crate::paths::ident;
 use crate::types::type_expr;
 use acts::State;
 use comments::parsed::Parsed;
+use image::sizes::HEAD;
 
 // Where the span of the last type ends, of those from `from` up to `to`.
-fn last_end(b: &[u8], from: usize, to: usize) -> u32
-    requires { SomeTypesAt b.now from to }
-    ensures { LastEnd b.now from to result }
+fn last_end(parsed: &Parsed<'_>, from: usize, to: usize) -> u32
+    requires { SomeTypesAt parsed.now.image.now from to }
+    ensures { LastEnd parsed.now.image.now from to result }
 {
-    let mut p = from;
-    let mut next = past(b, p);
-    // kept: an iterator over records must prove by itself that it ends and that each record lies in the image, which the loop's invariant says already.
-    while next < to {
-        p = next;
-        next = past(b, p);
+    let mut last = from;
+    for at in parsed.records(from, to) {
+        last = at;
     }
-    end(b, p)
+    parsed.end(last)
 }
 
 // A variant, with its types where it has some. The span of their list ends with the last of them.
@@ -34,14 +31,13 @@ pub(crate) fn variant(state: &mut State<'_>, parsed: &Parsed<'_>, at: usize)
     requires { Has VariantAt variant_rule parsed.now at state.old.cursor }
     ensures { LaidAs VariantAt variant_rule parsed.now at state.old state.new }
 {
-    let image = parsed.image;
-    let p = second(image, at);
-    let to = past(image, p);
+    let p = parsed.second(at);
+    let to = parsed.past(p);
     ident(state, parsed, at + HEAD);
     if p + HEAD == to {
         return;
     }
-    let last = last_end(image, p + HEAD, to);
+    let last = last_end(parsed, p + HEAD, to);
     let item = |inner: &mut State<'_>, q: usize|
         requires { Has TypeAt type_expr parsed.now q inner.old.cursor }
         ensures { LaidAs TypeAt type_expr parsed.entry.now q inner.old inner.new }

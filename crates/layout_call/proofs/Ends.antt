@@ -1,23 +1,22 @@
 -- A layout call by its ends: source or image refused, state refused, too few rows, laid.
 -- Assumes nothing.
 use mathlib.Core.Path.{◌≡◌, refl, sym, ap, ap₂, ◌∙◌}
-use mathlib.Core.Bool.{Bool, true, false, not}
+use mathlib.Core.Bool.{Bool, true, false, not, cond}
 use Rattle.std.specs.Prelude.{Option, None, Some, Result, Ok, Err}
 use mathlib.Core.List.{List, [], ◌∷◌}
-use Prim.Native.Nat.{ℕ, ◌+◌, ◌-◌, ◌*◌, ◌≤◌, ◌<◌}
+use Prim.Native.Nat.{ℕ, ◌+◌, ◌-◌, ◌*◌, ◌≤◌}
 use native.Mathlib.Omega.{arith}
 use lib.ListN.{length, take, drop}
 use lib.Dec.{ltb, eqb}
-use borrow.Author.Tests.{lt-ltb, le-ltb, not-true, not-false}
+use borrow.Author.Tests.{le-ltb, ltb-false, not-true, not-false}
 use Rattle.rows.specs.Places.{PLACES}
 use Rattle.image.specs.Read.{read_all, read_refusal, outcome, Accepts}
 use Rattle.image.specs.declared.Document.{Document}
 use Rattle.image.proofs.Answers.{read_refusal_lem}
-use Rattle.rows.specs.Limits.{CELL_LIMIT}
 use Rattle.rows.specs.Rows.{sizes, rows}
 use Rattle.rows.proofs.Sizes.{length_rows}
 use Rattle.acts.specs.Act.{Act}
-use Rattle.acts.specs.Laid.{cursor, st, Room, Laid}
+use Rattle.acts.specs.Laid.{st, Laid}
 use Rattle.acts.specs.declared.Cursor.{Cursor}
 use Rattle.tree.specs.CommentList.{comments_of}
 use Rattle.comments.specs.Listed.{given}
@@ -38,14 +37,14 @@ use Rattle.whole_run.specs.Built.{tree, declared}
 use Rattle.whole_run.proofs.Whole.{call_piece_lem}
 use Rattle.layout_call.specs.Calls.{to_state, to_args, laying_answer}
 use Rattle.layout_call.specs.Whole.{LayoutCalled}
-use Rattle.layout_call.specs.Steps.{SmallCursor, StateFits, Roomy, call_act}
+use Rattle.layout_call.specs.Steps.{Goes, StateFits, Roomy, from_of, missing, call_act}
 use Rattle.layout_call.specs.declared.LayoutState.{LayoutState}
 use Rattle.layout_call.specs.declared.LayoutArgs.{LayoutArgs}
 use Rattle.layout_call.specs.declared.Laid as declared
 use Rattle.refusals.specs.Reasons.{refusal}
 use Rattle.refusals.specs.declared.Refused.{Refused}
 use Rattle.refusals.specs.declared.Reason.TheVariants as reason
-use Rattle.layout_call.proofs.Standing.{comments_count, few_comments, source_short, room}
+use Rattle.layout_call.proofs.Standing.{comments_count}
 
 module _ (s b : List ℕ) (state : LayoutState) (q : LayoutArgs) (store : List ℕ) where
   abbrev before : List (Option Refusal)
@@ -90,25 +89,25 @@ module _ (s b : List ℕ) (state : LayoutState) (q : LayoutArgs) (store : List �
 
   module _ {d : Document} (a : Accepts s b d) where
     -- what the test of the state answers, by how much there is of all
-    pub fits_told : (x : Bool) (declarations : ℕ) → declarations ≡ length (declared s b)
+    fits_told : (x : Bool) (declarations : ℕ) → declarations ≡ length (declared s b)
         → x ≡ not (any (layout_tests_in declarations d.comments (length s) (rows_in store) (to_args q) (to_state state))) → x ≡ not unfit
     fits_told x declarations e f = rw (sym e, comments_count a) f
-
-    pub fits_by : (x : Bool) → x ≡ not unfit → not x ≡ false → StateFits s b state q store
-    fits_by x e h = record { tested = not-true unfit (sym e ∙ not-false x h) }
 
     -- so, by what it answers, 12 refuses the state or lets it pass
     pub fits_unless : (x : Bool) (declarations : ℕ) → declarations ≡ length (declared s b)
         → x ≡ not (any (layout_tests_in declarations d.comments (length s) (rows_in store) (to_args q) (to_state state))) → x ≡ true
         → StateFits s b state q store
-    fits_unless x declarations e f h = fits_by x (fits_told x declarations e f) (ap not h)
+    fits_unless x declarations e f h = record { tested = not-true unfit (sym (fits_told x declarations e f) ∙ h) }
 
     reads : read_refusal (read_all s b) ≡ None
     reads = sym (read_refusal_lem (read_all s b)) ∙ ap refusal_of a.answer
 
     -- 12
-    pub ends_unfit : (x : Bool) → x ≡ not unfit → not x ≡ true → LayoutCalled s b state q store (Err (record { reason = reason.State; place = 0 })) store
-    ends_unfit x e h = refused_by _ _ (refuses_left _ before behind (before_by None true reads (not-false unfit (sym e ∙ not-true x h)))) refl
+    pub ends_unfit : (x : Bool) (declarations : ℕ) → declarations ≡ length (declared s b)
+        → x ≡ not (any (layout_tests_in declarations d.comments (length s) (rows_in store) (to_args q) (to_state state))) → x ≡ false
+        → LayoutCalled s b state q store (Err (record { reason = reason.State; place = 0 })) store
+    ends_unfit x declarations e f h =
+        refused_by _ _ (refuses_left _ before behind (before_by None true reads (not-false unfit (sym (fits_told x declarations e f) ∙ h)))) refl
 
     module _ (fits : StateFits s b state q store) where
       passes : first before ≡ None
@@ -117,31 +116,29 @@ module _ (s b : List ℕ) (state : LayoutState) (q : LayoutArgs) (store : List �
       told : LayoutFits (length (declared s b)) (length (comments_of b)) (length s) (rows_in store) (to_args q) (to_state state)
       told = layout_fits (length (declared s b)) (length (comments_of b)) (length s) (rows_in store) (to_args q) (to_state state) fits.tested
 
-      pub ahead : state.declaration ≤ q.stop
+      ahead : state.declaration ≤ q.stop
       ahead = told.stop.from
 
-      pub within : q.stop ≤ length (declared s b)
+      within : q.stop ≤ length (declared s b)
       within = told.stop.to
 
-      -- the state's numbers are those of a cursor
-      pub fit_cells : (state.row < CELL_LIMIT) × ((state.number < CELL_LIMIT) × ((state.placed < CELL_LIMIT) × (state.position < CELL_LIMIT)))
-      fit_cells =
-          let p = told.places in
-          let l = told.limits in (
-            omega (arith, l.row),
-            (omega (arith, l.number), (omega (arith, p.placed, comments_count a, few_comments a), omega (arith, p.position, source_short a))),
-          )
-
-      -- 8
-      pub ends_short : (m : ℕ) → m ≡ needed → rows_in store < m → LayoutCalled s b state q store (Err (record { reason = reason.RowsNeeded; place = m })) store
-      ends_short m e h = refused_by _ _ (rows_by true m passes (sym e) (lt-ltb (rows_in store) m h)) refl
+      -- the call goes on, and its numbers are small
+      pub goes : Goes s b d state q
+      goes = record {
+        ahead = ahead;
+        within = within;
+        row = told.limits.row;
+        number = told.limits.number;
+        placed = omega (arith, told.places.placed, comments_count a);
+        position = told.places.position;
+      }
 
       -- what is due, by the rules
       abbrev act : Act
       act = call_act s b state q
 
       abbrev from : Cursor
-      from = cursor state.row state.number state.position state.placed
+      from = from_of state
 
       due : call_piece (parts_of s b) (to_state state) (to_args q) ≡ act_piece act (to_state state).cursor
       due = call_piece_lem (read_all s b) s b (to_state state) (to_args q) ahead within
@@ -149,11 +146,24 @@ module _ (s b : List ℕ) (state : LayoutState) (q : LayoutArgs) (store : List �
       pub needed_is : needed ≡ state.row + sizes (act (st from)).nodes
       needed_is = ap (λ (p : Piece). p.cursor.row) due
 
-      pub small : SmallCursor from d
-      small = record { row = told.limits.row; number = told.limits.number; placed = omega (arith, told.places.placed, comments_count a) }
+      -- 8, by what the count answers
+      abbrev lacks : Option ℕ
+      lacks = missing (rows_in store) (state.row + sizes (act (st from)).nodes)
 
-      pub ready : Room act from
-      ready = room a state q ahead from small
+      pub ends_short : (m : ℕ) → Some m ≡ lacks → LayoutCalled s b state q store (Err (record { reason = reason.RowsNeeded; place = m })) store
+      ends_short m e = go (ltb (rows_in store) needed) refl (e ∙ ap (missing (rows_in store)) (sym needed_is))
+        where
+          go : (t : Bool) → ltb (rows_in store) needed ≡ t → Some m ≡ cond t (Some needed) None
+              → LayoutCalled s b state q store (Err (record { reason = reason.RowsNeeded; place = m })) store
+          go true h f = let same : m ≡ needed = cc in refused_by _ _ (rows_by true m passes (sym same) (ap (ltb (rows_in store)) same ∙ h)) refl
+          go false h f = absurd (cc)
+
+      pub is_roomy : None ≡ lacks → Roomy s b state q store
+      is_roomy e = record { fits = go (ltb (rows_in store) needed) refl (e ∙ ap (missing (rows_in store)) (sym needed_is)) }
+        where
+          go : (t : Bool) → ltb (rows_in store) needed ≡ t → None ≡ cond t (Some needed) None → needed ≤ rows_in store
+          go true h f = absurd (cc)
+          go false h f = ltb-false (rows_in store) needed h
 
       module _ (roomy : Roomy s b state q store) (store2 : List ℕ) (e : Cursor) (laid : Laid act store from store2 e) where
         -- so no difference falls under 0
@@ -164,7 +174,7 @@ module _ (s b : List ℕ) (state : LayoutState) (q : LayoutArgs) (store : List �
             let w = (places_call g (tree s b) (not state.begun) ds (eqb state.declaration 0) q.close
             (keeps_waiting q.mode)
             ).from (st from)
-            (omega (arith, small.placed, comments_count a))
+            (omega (arith, goes.placed, comments_count a))
             in
             omega (arith, ap (λ (c : Cursor). c.placed) laid.moved, w.within, comments_count a)
 

@@ -3,31 +3,36 @@
 use mathlib.Core.Path.{◌≡◌, refl, sym, ap, subst, ◌∙◌}
 use mathlib.Core.Bool.{Bool, true, false, not}
 use mathlib.Core.List.{List, [], ◌∷◌, ◌++◌}
-use Prim.Native.Nat.{ℕ, ◌+◌, ◌-◌, ◌*◌, ◌≤◌, ◌<◌}
+use Prim.Native.Nat.{ℕ, zero, suc, ◌+◌, ◌-◌, ◌*◌, ◌≤◌, ◌<◌}
 use native.Mathlib.Omega.{arith}
-use lib.ListN.{length, take, drop, length-drop, take-append-drop}
+use lib.ListN.{length, take, drop, take-append-drop}
 use lib.Dec.{ltb, eqb}
 use borrow.Author.Tests.{lt-ltb, le-ltb, ltb-true, ltb-false}
+use Rattle.std.specs.Prelude.{slice_get, unwrap_or}
 use Rattle.image.specs.Read.{stop_at, Accepts}
 use Rattle.image.specs.declared.Document.{Document}
 use Rattle.image.proofs.Accepted.{accepted}
 use Rattle.ast.specs.Syntax.{Declaration}
 use Rattle.tree.specs.At.{DeclarationsAt}
 use Rattle.tree.specs.Walk.{walked}
-use Rattle.tree.proofs.Walk.{declarations_from_lem, walked_within, walked_on, declarations_between}
-use Rattle.acts.specs.Laid.{st, Room, Laid}
+use Rattle.tree.proofs.Walk.{walked_within, declarations_between}
+use Rattle.acts.specs.Laid.{st, Room}
 use Rattle.acts.specs.Does.{Does}
 use Rattle.acts.specs.declared.Cursor.{Cursor}
 use Rattle.acts.specs.declared.State.{State}
 use Rattle.tree.specs.CommentList.{comments_of}
 use Rattle.comments.specs.Listed.{given, Listed}
 use Rattle.comments.specs.Parsed.{given_by}
+use Rattle.comments.specs.AllIn.{AllIn, offsets_from}
 use Rattle.comments.specs.declared.parsed.Parsed.{Parsed}
 use Rattle.comments.proofs.Accepted.{accepted_listed}
 use Rattle.comments.proofs.Fronts.{count_of}
-use Rattle.layout.specs.Promises.{Readable, HasIn, LaidAs, HasAllIn, LaidAll, InImage}
+use Rattle.comments.proofs.Offsets.{first_offset, no_offset}
+use Rattle.layout.specs.Promises.{Readable, HasIn, LaidAs, HasAllIn, LaidAll}
+use Rattle.comments.specs.Record.{InImage}
 use Rattle.layout.specs.Forms.{MaybeIdentAt, declarations_from}
 use Rattle.layout.specs.Layout.{shebang_rule, declarations_rule}
+use Rattle.layout.proofs.DeclarationForms.{declarations_in}
 use Rattle.layout_facts.specs.Sound.{BYTE_GIVES, ROW_TAKES}
 use Rattle.layout_facts.specs.Accepted.{Stands}
 use Rattle.rows.specs.Rows.{sizes}
@@ -35,7 +40,7 @@ use Rattle.layout_facts.proofs.Limits.{call_room, few_rows as few}
 use Rattle.whole_run.specs.Parts.{keeps_waiting}
 use Rattle.whole_run.specs.Built.{tree, declared}
 use Rattle.whole_run.proofs.Limits.{standing}
-use Rattle.layout_call.specs.Steps.{SmallCursor, start_of, call_act}
+use Rattle.layout_call.specs.Steps.{Goes, start_of, from_of, call_act}
 use Rattle.layout_call.specs.declared.LayoutState.{LayoutState}
 use Rattle.layout_call.specs.declared.LayoutArgs.{LayoutArgs}
 
@@ -80,23 +85,6 @@ module _ {s b : List ℕ} {d : Document} (a : Accepts s b d) where
   pub tree_in : InImage b at
   tree_in = record { fits = omega (arith, stands.tree.end) }
 
-  rest : (k : ℕ) → DeclarationsAt s b (drop k ds) (start_of s b at k) (stop_at b at)
-  rest k = declarations_from_lem s b ds k (stop_at b (at + 13)) (stop_at b at) all
-
-  pub starts_first : start_of s b at 0 ≡ stop_at b (at + 13)
-  unfolding walked
-  starts_first = refl
-
-  -- a declaration more
-  record More (xs : List Declaration) (p end : ℕ) : Type 0 where
-    next : walked b xs 1 p ≡ stop_at b p
-    inside : stop_at b p ≤ end
-
-  more_at : (xs : List Declaration) (p end : ℕ) → DeclarationsAt s b xs p end → 0 < length xs → More xs p end
-  unfolding DeclarationsAt walked
-  more_at [] p end h l = absurd (omega arith)
-  more_at (x ∷ xs) p end h l = record { next = refl; inside = h.1.least }
-
   some_left : (xs : List Declaration) (p end : ℕ) → DeclarationsAt s b xs p end → p < end → 0 < length xs
   unfolding DeclarationsAt
   some_left [] p end h l = absurd (omega (arith, h.same))
@@ -116,34 +104,39 @@ module _ {s b : List ℕ} {d : Document} (a : Accepts s b d) where
   pub few_declarations : length ds ≤ 1048581
   few_declarations = omega (arith, counted ds _ _ all, stands.tree.end, stands.small)
 
-  module _ (k : ℕ) where
-    pub another : start_of s b at k < stop_at b at → k < length ds
-    another l = omega (arith, length-drop k ds, some_left (drop k ds) _ _ (rest k) l)
+  -- each has a record
+  recorded : (xs : List Declaration) (p end : ℕ) → DeclarationsAt s b xs p end → length (offsets_from b p end) ≡ length xs
+  unfolding DeclarationsAt
+  recorded [] p end h = ap length (no_offset b end p (omega (arith, h.same)))
+  recorded (x ∷ xs) p end h =
+      ap length (first_offset b end p (stop_at b p) (omega (arith, h.1.least)) refl) ∙ ap suc (recorded xs (stop_at b p) end h.2)
 
-    pub no_more : k ≤ length ds → stop_at b at ≤ start_of s b at k → k ≡ length ds
-    no_more h l = omega (arith, length-drop k ds, none_left (drop k ds) _ _ (rest k) l)
+  -- the record at k is where declaration k starts
+  nth_starts : (k : ℕ) (xs : List Declaration) (p end : ℕ) → DeclarationsAt s b xs p end → k ≤ length xs
+      → unwrap_or (slice_get (offsets_from b p end) k) end ≡ walked b xs k p
+  unfolding DeclarationsAt walked
+  nth_starts zero [] p end h l = rw (no_offset b end p (omega (arith, h.same))) (sym h.same)
+  nth_starts (suc k) [] p end h l = absurd (omega (arith, l))
+  nth_starts zero (x ∷ xs) p end h l = rw (first_offset b end p (stop_at b p) (omega (arith, h.1.least)) refl) refl
+  nth_starts (suc k) (x ∷ xs) p end h l =
+      rw (first_offset b end p (stop_at b p) (omega (arith, h.1.least)) refl) (nth_starts k xs (stop_at b p) end h.2 (omega (arith, l)))
 
-    module _ (h : k < length ds) where
-      here : More (drop k ds) (start_of s b at k) (stop_at b at)
-      here = more_at (drop k ds) _ _ (rest k) (omega (arith, length-drop k ds))
+  pub all_records_in : AllIn b (stop_at b (at + 13)) (stop_at b at)
+  all_records_in = declarations_in s b _ _ ds (omega (arith, stands.tree.end)) all
 
-      pub record_in : InImage b (start_of s b at k)
-      record_in = record { fits = omega (arith, here.inside, stands.tree.end) }
+  pub as_many_records : length (offsets_from b (stop_at b (at + 13)) (stop_at b at)) ≡ length ds
+  as_many_records = recorded ds _ _ all
 
-      pub goes_on : stop_at b (start_of s b at k) ≡ start_of s b at (k + 1)
-      goes_on = sym here.next ∙ walked_on s b ds k 1 (stop_at b (at + 13))
+  pub record_at : (k : ℕ) → k ≤ length ds → unwrap_or (slice_get (offsets_from b (stop_at b (at + 13)) (stop_at b at)) k) (stop_at b at) ≡ start_of s b at k
+  record_at k l = nth_starts k ds _ _ all l
 
   -- there is one, if the first would start before they end
   pub some_declared : (first end : ℕ) → first ≡ stop_at b (at + 13) → end ≡ stop_at b at → ltb first end ≡ ltb 0 (length ds)
   some_declared first end e f = go (ltb first end) refl
     where
       go : (x : Bool) → ltb first end ≡ x → x ≡ ltb 0 (length ds)
-      go true h =
-          let l : start_of s b at 0 < stop_at b at = omega (arith, ltb-true first end h, starts_first) in
-          sym (lt-ltb 0 (length ds) (another 0 l))
-      go false h =
-          let l : stop_at b at ≤ start_of s b at 0 = omega (arith, ltb-false first end h, starts_first) in
-          sym (le-ltb 0 (length ds) (omega (arith, no_more 0 (omega arith) l)))
+      go true h = sym (lt-ltb 0 (length ds) (some_left ds _ _ all (omega (arith, ltb-true first end h))))
+      go false h = sym (le-ltb 0 (length ds) (omega (arith, none_left ds _ _ all (omega (arith, ltb-false first end h)))))
 
   -- ---- a part of them
   module _ (from to : ℕ) (h : from ≤ to) where
@@ -170,7 +163,13 @@ module _ {s b : List ℕ} {d : Document} (a : Accepts s b d) where
         ap (λ (l : List Declaration). take from ds ++ l) (take-append-drop (to - from) (drop from ds)) ∙ take-append-drop from ds
 
   -- ---- what a call lays
-  module _ (state : LayoutState) (q : LayoutArgs) (h : state.declaration ≤ q.stop) (c : Cursor) (k : SmallCursor c d) where
+  module _ {state : LayoutState} {q : LayoutArgs} (goes : Goes s b d state q) where
+    abbrev h : state.declaration ≤ q.stop
+    h = goes.ahead
+
+    abbrev c : Cursor
+    c = from_of state
+
     abbrev from : ℕ
     from = state.declaration
 
@@ -183,9 +182,9 @@ module _ {s b : List ℕ} {d : Document} (a : Accepts s b d) where
         (keeps_waiting q.mode)
         (parted from q.stop h)
         c
-        k.row
-        k.number
-        (omega (arith, comments_count, k.placed))
+        goes.row
+        goes.number
+        (omega (arith, comments_count, goes.placed))
 
     pub few_rows : ROW_TAKES * sizes (call_act s b state q (st c)).nodes ≤ BYTE_GIVES * length b
     few_rows =
@@ -193,7 +192,7 @@ module _ {s b : List ℕ} {d : Document} (a : Accepts s b d) where
         q.close
         (keeps_waiting q.mode)
         (st c)
-        (omega (arith, comments_count, k.placed))
+        (omega (arith, comments_count, goes.placed))
         ).rows
 
 -- what is laid of a file that is read

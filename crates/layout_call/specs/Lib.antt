@@ -1,3 +1,6 @@
+pub mod ByCall
+pub mod ByFile
 pub mod Calls
 pub mod Steps
 pub mod Whole
+pub mod Within

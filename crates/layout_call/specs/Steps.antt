@@ -1,10 +1,11 @@
 -- What the functions below the layout call go by.
-use Rattle.std.specs.Prelude.{◌≡◌, false, not, List, ℕ, ◌+◌, ◌-◌, ◌≤◌, ◌<◌, eqb, take, drop}
+use Rattle.std.specs.Prelude.{◌≡◌, false, not, cond, List, ℕ, ◌+◌, ◌-◌, ◌≤◌, eqb, ltb, length, take, drop, Option, Some, None}
 use Rattle.image.specs.Read.{stop_at}
 use Rattle.image.specs.declared.Document.{Document}
 use Rattle.rows.specs.Limits.{MAX_ROWS, MAX_NUMBER}
 use Rattle.tree.specs.Walk.{walked}
 use Rattle.acts.specs.Act.{Act}
+use Rattle.acts.specs.Laid.{cursor}
 use Rattle.comments.specs.Listed.{given}
 use Rattle.layout.specs.Closing.{call_rule}
 use Rattle.acts.specs.declared.Cursor.{Cursor}
@@ -28,16 +29,22 @@ call_act s b state q =
     call_rule (given s b) (tree s b) (not state.begun) (take (q.stop - from) (drop from (declared s b))) (eqb from 0) q.close
     (keeps_waiting q.mode)
 
--- the cursor's numbers are within the limits of refusal 12
-pub record SmallCursor (c : Cursor) (d : Document) : Type 0 where
-  pub row : c.row ≤ MAX_ROWS
-  pub number : c.number ≤ MAX_NUMBER
-  pub placed : c.placed ≤ d.comments
+-- the cursor of a state
+abbrev pub from_of : LayoutState → Cursor
+from_of state = cursor state.row state.number state.position state.placed
 
--- r is the row behind what is laid, if that is past the rows of the store; else it is not past them either
-pub record Wanted (rows needed r : ℕ) : Type 0 where
-  pub short : rows < r → r ≡ needed
-  pub enough : r ≤ rows → needed ≤ rows
+-- what 12 lets pass, whatever the store: the call goes on from its next declaration to one that is there, and its numbers are small
+pub record Goes (s b : List ℕ) (d : Document) (state : LayoutState) (q : LayoutArgs) : Type 0 where
+  pub ahead : state.declaration ≤ q.stop
+  pub within : q.stop ≤ length (declared s b)
+  pub row : state.row ≤ MAX_ROWS
+  pub number : state.number ≤ MAX_NUMBER
+  pub placed : state.placed ≤ d.comments
+  pub position : state.position ≤ length s
+
+-- how many rows are needed, where a store of so many lacks some
+abbrev pub missing : ℕ → ℕ → Option ℕ
+missing rows needed = cond (ltb rows needed) (Some needed) None
 
 -- 12 does not refuse
 pub record StateFits (s b : List ℕ) (state : LayoutState) (q : LayoutArgs) (store : List ℕ) : Type 0 where

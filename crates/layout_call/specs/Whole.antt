@@ -9,6 +9,7 @@ use Rattle.layout_call.specs.declared.LayoutArgs.{LayoutArgs}
 use Rattle.layout_call.specs.declared.Laid.{Laid}
 
 -- the answer, and the store at exit, for one source and image: what the caller's state, arguments and store give
-pub record LayoutCalled (source image : List ℕ) (state : LayoutState) (args : LayoutArgs) (store : List ℕ) (r : Result Laid Refused) (store2 : List ℕ) : Type 0 where
+pub record LayoutCalled (source image : List ℕ) (state : LayoutState) (args : LayoutArgs) (store : List ℕ)
+    (r : Result Laid Refused) (store2 : List ℕ) : Type 0 where
   pub answer : laying_answer source image r ≡ layout_answer (rules_of source image) (to_args args) (to_state state) store
   pub store_left_of : store2 ≡ layout_store (rules_of source image) (to_args args) (to_state state) store

@@ -3,25 +3,29 @@ ghost use Rattle.std.specs.Prelude.{◌≡◌, not};
 ghost use Rattle.refusals.specs.Refusals.{any};
 ghost use Rattle.cut_rule.specs.Tests.{places_tests, limit_tests, begun_tests, stop_tests, mode_tests, layout_tests_in};
 ghost use Rattle.layout_call.specs.Calls.{to_state, to_args};
+ghost use Rattle.layout_call.specs.Within.{within_tests};
 
 use crate::modes::NEW_MODE;
 use crate::{LayoutArgs, LayoutState};
 use rows::limits::{MAX_NUMBER, MAX_ROWS};
 
+// What a state may be within: how many declarations, comments, bytes of the source and rows of the store there are.
+#[derive(Clone, Copy)]
+pub(crate) struct Within {
+    pub declarations: usize,
+    pub comments: usize,
+    pub size: usize,
+    pub rows: usize,
+}
+
 // Whether the state's places are within declarations, comments, source and store.
-fn places_fit(
-    state: LayoutState,
-    declarations: usize,
-    comments: usize,
-    size: usize,
-    rows: usize,
-) -> bool
-    ensures { result ≡ not (any (places_tests declarations comments size rows (to_state state))) }
+fn places_fit(state: LayoutState, within: Within) -> bool
+    ensures { result ≡ not (any (within_tests places_tests within (to_state state))) }
 {
-    state.declaration <= declarations
-        && state.placed <= comments
-        && state.position <= size
-        && state.row <= rows
+    state.declaration <= within.declarations
+        && state.placed <= within.comments
+        && state.position <= within.size
+        && state.row <= within.rows
 }
 
 // Whether next row and next number are within their limits.
@@ -55,20 +59,13 @@ fn mode_fits(state: LayoutState, args: LayoutArgs) -> bool
     args.mode <= NEW_MODE && (!state.begun || args.mode == state.mode)
 }
 
-// Whether the state is one that this call may have, for a source of `size` bytes and a store of `rows` rows.
-pub(crate) fn state_fits(
-    state: LayoutState,
-    args: LayoutArgs,
-    declarations: usize,
-    comments: usize,
-    size: usize,
-    rows: usize,
-) -> bool
-    ensures { result ≡ not (any (layout_tests_in declarations comments size rows (to_args args) (to_state state))) }
+// Whether the state is one that this call may have.
+pub(crate) fn state_fits(state: LayoutState, args: LayoutArgs, within: Within) -> bool
+    ensures { result ≡ not (any (within_tests layout_tests_in within (to_args args) (to_state state))) }
 {
-    places_fit(state, declarations, comments, size, rows)
+    places_fit(state, within)
         && limits_fit(state)
         && begins_fresh(state)
-        && stop_fits(state, args, declarations)
+        && stop_fits(state, args, within.declarations)
         && mode_fits(state, args)
 }

@@ -11,16 +11,17 @@ mod room;
 pub mod steps;
 
 ghost use Rattle.layout_call.specs.Whole.{LayoutCalled};
+ghost use Rattle.layout_call.specs.ByFile.{of_file};
 
 use crate::accepted::Accepted;
-use crate::answer::cursor_of;
 use crate::call::Call;
-use crate::fits::state_fits;
+use crate::fits::{Within, state_fits};
 use crate::steps::count_declarations;
 use refusals::{Reason, Refused};
 use rows::places::PLACES;
 
 // Begun, closed, next declaration, next row, next number, comments placed, position, mode.
+// kept: numbers of 64 bits, and no `Cursor` of acts, whose numbers are of 32: C lends any, and 12 refuses what is too large.
 #[derive(Clone, Copy, Debug, Default, PartialEq, Eq)]
 pub struct LayoutState {
     pub begun: bool,
@@ -55,17 +56,19 @@ pub fn layout_accepted(
     state: LayoutState,
     args: LayoutArgs,
 ) -> Result<Laid, Refused>
-    ensures { LayoutCalled file.entry.parsed.source.now file.entry.parsed.image.now state args store.old result store.new }
+    ensures { of_file LayoutCalled file.entry state args store.old result store.new }
 {
-    let call = Call { file, state, args };
-    let rows = store.len() / PLACES;
-    let declarations = count_declarations(file);
-    let size = file.parsed.source.len();
-    if !state_fits(state, args, declarations, file.doc.comments, size, rows) {
+    let within = Within {
+        declarations: count_declarations(file),
+        comments: file.doc.comments,
+        size: file.parsed.source.len(),
+        rows: store.len() / PLACES,
+    };
+    if !state_fits(state, args, within) {
         return Err(Reason::State.at(0));
     }
-    let needed = call.rows_wanted(cursor_of(state), rows);
-    if rows < needed {
+    let call = Call { file, state, args };
+    if let Some(needed) = call.rows_missing(within.rows) {
         return Err(Reason::RowsNeeded.at(needed));
     }
     Ok(call.laid(store))

@@ -1,5 +1,5 @@
 // What closing does with the comments that wait.
-// kept: numbers and no enum, since states, arguments and choices hold any number, 12 refuses those over 1, and one place asks which it is.
+// kept: numbers and no enum: C lends any number as a mode; refusal 12 turns down those over 1, and only `close_document` asks which it is.
 
 // They stay in the list, as in the Rust.
 pub const OLD_MODE: usize = 0;

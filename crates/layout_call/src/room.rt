@@ -1,12 +1,9 @@
 // Refusal 8: how many rows a call needs.
-ghost use Rattle.std.specs.Prelude.{◌≡◌, ◌+◌, ◌≤◌, length};
-ghost use Rattle.rows.specs.Rows.{sizes};
-ghost use Rattle.acts.specs.Laid.{st};
-ghost use Rattle.whole_run.specs.Built.{declared};
-ghost use Rattle.layout_call.specs.Steps.{SmallCursor, Wanted, call_act};
+ghost use Rattle.std.specs.Prelude.{◌≡◌};
+ghost use Rattle.layout_call.specs.Steps.{missing};
+ghost use Rattle.layout_call.specs.ByCall.{rows_behind};
 
 use crate::call::Call;
-use acts::Cursor;
 
 // A tree has no more than five rows for each 13 bytes of its image: a byte gives 5 points, and a row takes 13.
 const BYTE_GIVES: usize = 5;
@@ -14,23 +11,22 @@ const BYTE_GIVES: usize = 5;
 const ROW_TAKES: usize = 13;
 
 impl Call<'_> {
-    // The row behind what a call lays, counted over a store that has no room for it.
-    fn rows_needed(&self, c: Cursor) -> usize
-        requires { (self.now.state.declaration ≤ self.now.args.stop) × ((self.now.args.stop ≤ length (declared self.now.file.parsed.source.now self.now.file.parsed.image.now)) × SmallCursor c self.now.file.doc) }
-        ensures { result ≡ c.row + sizes (call_act self.now.file.parsed.source.now self.now.file.parsed.image.now self.now.state self.now.args (st c)).nodes }
+    // The row behind what the call lays, counted over a store that has no room for it.
+    fn rows_needed(&self) -> usize
+        ensures { result ≡ rows_behind self.now }
     {
-        self.lay_from(&mut [], c).row as usize
+        self.lay_all(&mut []).row as usize
     }
 
-    // The same if it is past `rows`, and else a row that is not. Where the store has all the rows that the image's bytes give, nothing is counted.
-    pub(crate) fn rows_wanted(&self, c: Cursor, rows: usize) -> usize
-        requires { (self.now.state.declaration ≤ self.now.args.stop) × ((self.now.args.stop ≤ length (declared self.now.file.parsed.source.now self.now.file.parsed.image.now)) × SmallCursor c self.now.file.doc) }
-        ensures { Wanted rows (c.row + sizes (call_act self.now.file.parsed.source.now self.now.file.parsed.image.now self.now.state self.now.args (st c)).nodes) result }
+    // The same, if a store of so many rows lacks some. Where it has all the rows that the image's bytes give, nothing is counted.
+    pub(crate) fn rows_missing(&self, rows: usize) -> Option<usize>
+        ensures { result ≡ missing rows (rows_behind self.now) }
     {
-        let most = c.row as usize + self.file.parsed.image.len() * BYTE_GIVES / ROW_TAKES;
+        let most = self.state.row + self.file.parsed.image.len() * BYTE_GIVES / ROW_TAKES;
         if most <= rows {
-            return rows;
+            return None;
         }
-        self.rows_needed(c)
+        let needed = self.rows_needed();
+        if rows < needed { Some(needed) } else { None }
     }
 }

@@ -4,18 +4,11 @@ use mathlib.Core.Path.{◌≡◌, refl, ap, ap₂, sym, ◌∙◌}
 use Prim.Native.Nat.{ℕ, zero, suc, ◌+◌, ◌*◌, ◌/◌, ◌%◌, ◌-◌, ◌≤◌, ◌<◌}
 use native.Mathlib.Omega.{arith}
 use native.Mathlib.Numerals.{add-one}
-use mathlib.Core.Logic.{◌⊎◌, inl, inr}
 use mathlib.Core.List.{List, [], ◌∷◌}
 use lib.ListN.{length, get_or, set, replicate, length-set, length-replicate}
 use lib.Seq.{sets}
 use borrow.Rule.Slice.PartMut.{put_mid, mid_of, mid_len}
-use borrow.Author.Tests.{ne_eqb}
-use Rattle.std.specs.Prelude.{Some, None}
-use Rattle.rows.specs.Kinds.{GROUP, IF_WRAP, CALL, number_of, kind_of}
-use Rattle.rows.specs.declared.kinds.Kind.{Kind}
-use Rattle.rows.specs.declared.kinds.Kind.TheVariants.{Group, IfWrap, Call}
-use Rattle.rows.proofs.KindOf.{is_kind, not_number, no_number}
-use Rattle.rows.specs.Places.{KIND, NUMBER, SECOND_NUMBER, WIDTH, PLACES}
+use Rattle.rows.specs.Places.{WIDTH, PLACES}
 use Rattle.laws.proofs.Numbers.{one_more}
 use Rattle.rows.specs.View.{cell}
 use Rattle.rows.proofs.Part.{part_sets}
@@ -42,50 +35,29 @@ pub cleared_none : (n i : ℕ) (m : List ℕ) → n ≡ 0 → m ≡ clear_from n
 unfolding clear_from
 cleared_none n i m e = rw e
 
--- the numbers of a row, by what the code tests
-pub numbers_call : (s : List ℕ) (i a b : ℕ) (k : Kind) → kind_of (cell s i KIND) ≡ Some k → a ≡ cell s i NUMBER
-    → b ≡ cell s i SECOND_NUMBER → k ≡ Call → a ∷ b ∷ [] ≡ numbers_of s i
-numbers_call s i a b k e f g h = rw (is_kind _ k e ∙ ap number_of h, f, g)
-
-pub numbers_one : (s : List ℕ) (i a : ℕ) (k : Kind) → kind_of (cell s i KIND) ≡ Some k → a ≡ cell s i NUMBER → (k ≡ Group) ⊎ (k ≡ IfWrap)
-    → a ∷ [] ≡ numbers_of s i
-numbers_one s i a k e f (inl h) = rw (is_kind _ k e ∙ ap number_of h, f)
-numbers_one s i a k e f (inr h) = rw (is_kind _ k e ∙ ap number_of h, f)
-
-no_numbers : (s : List ℕ) (i : ℕ) → (cell s i KIND ≡ CALL → ⊥) → (cell s i KIND ≡ GROUP → ⊥) → (cell s i KIND ≡ IF_WRAP → ⊥) → [] ≡ numbers_of s i
-no_numbers s i a b c = rw (ne_eqb (cell s i KIND) 11 a, ne_eqb (cell s i KIND) 0 b, ne_eqb (cell s i KIND) 10 c)
-
-pub numbers_none : (s : List ℕ) (i : ℕ) (k : Kind) → kind_of (cell s i KIND) ≡ Some k → (k ≡ Call → ⊥) → (k ≡ Group → ⊥) → (k ≡ IfWrap → ⊥) → [] ≡ numbers_of s i
-numbers_none s i k e a b c =
-    let n = is_kind _ k e in
-    no_numbers s i (not_number Call n a) (not_number Group n b) (not_number IfWrap n c)
-
-pub numbers_no_kind : (s : List ℕ) (i : ℕ) → kind_of (cell s i KIND) ≡ None → [] ≡ numbers_of s i
-numbers_no_kind s i e = no_numbers s i (no_number Call e) (no_number Group e) (no_number IfWrap e)
-
-pack_two : (x y : ℕ) → x + 256 * y ≡ packed_marks (x ∷ y ∷ [])
+pack_two : (v x y : ℕ) → v ≡ x + y * 256 + 0 + 0 → v ≡ packed_marks (x ∷ y ∷ [])
 unfolding packed_marks
-pack_two x y = omega arith
+pack_two v x y e = omega arith
 
 pack_one : (x : ℕ) → x ≡ packed_marks (x ∷ [])
 unfolding packed_marks
 pack_one x = omega arith
 
-pub aside_two : (u : ℕ) (s m : List ℕ) (i a b x y : ℕ) (m1 m2 ns : List ℕ) → a ∷ b ∷ [] ≡ ns
-    → x ≡ get_or m a 0 → m1 ≡ clear u a m → y ≡ get_or m1 b 0 → m2 ≡ clear u b m1
-    → held (set s (i * PLACES + WIDTH) (x + 256 * y)) m2 ≡ row_aside u ns (held s m) i
+pub aside_two : (u : ℕ) (s m : List ℕ) (i a b v x y : ℕ) (m1 m2 ns : List ℕ) → a ∷ b ∷ [] ≡ ns
+    → x ≡ get_or m a 0 → m1 ≡ clear u a m → y ≡ get_or m1 b 0 → m2 ≡ clear u b m1 → v ≡ x + y * 256 + 0 + 0
+    → held (set s (i * PLACES + WIDTH) v) m2 ≡ row_aside u ns (held s m) i
 unfolding row_aside saved cleared_all
-aside_two u s m i a b x y m1 m2 ns n e f g h =
-    ap₂ (λ (v : ℕ) (w : List ℕ). held (set s (i * PLACES + WIDTH) v) w)
-    (pack_two x y ∙ ap₂ (λ (p : ℕ) (q : ℕ). packed_marks (p ∷ q ∷ [])) e (g ∙ ap (λ (w : List ℕ). get_or w b 0) f))
+aside_two u s m i a b v x y m1 m2 ns n e f g h p =
+    ap₂ (λ (z : ℕ) (w : List ℕ). held (set s (i * PLACES + WIDTH) z) w)
+    (pack_two v x y p ∙ ap₂ (λ (p : ℕ) (q : ℕ). packed_marks (p ∷ q ∷ [])) e (g ∙ ap (λ (w : List ℕ). get_or w b 0) f))
     (h ∙ ap (λ (w : List ℕ). clear u b w) f)
     ∙ ap (λ (l : List ℕ). row_aside u l (held s m) i) n
 
-pub aside_one : (u : ℕ) (s m : List ℕ) (i a x : ℕ) (m1 ns : List ℕ) → a ∷ [] ≡ ns → x ≡ get_or m a 0 → m1 ≡ clear u a m
-    → held (set s (i * PLACES + WIDTH) x) m1 ≡ row_aside u ns (held s m) i
+pub aside_one : (u : ℕ) (s m : List ℕ) (i a v x : ℕ) (m1 ns : List ℕ) → a ∷ [] ≡ ns → x ≡ get_or m a 0 → m1 ≡ clear u a m → v ≡ x
+    → held (set s (i * PLACES + WIDTH) v) m1 ≡ row_aside u ns (held s m) i
 unfolding row_aside saved cleared_all
-aside_one u s m i a x m1 ns n e f =
-    ap₂ (λ (v : ℕ) (w : List ℕ). held (set s (i * PLACES + WIDTH) v) w) (pack_one x ∙ ap (λ (p : ℕ). packed_marks (p ∷ [])) e) f
+aside_one u s m i a v x m1 ns n e f p =
+    ap₂ (λ (z : ℕ) (w : List ℕ). held (set s (i * PLACES + WIDTH) z) w) (p ∙ pack_one x ∙ ap (λ (p : ℕ). packed_marks (p ∷ [])) e) f
     ∙ ap (λ (l : List ℕ). row_aside u l (held s m) i) n
 
 pub aside_none : (u : ℕ) (h : Held) (i : ℕ) (ns : List ℕ) → [] ≡ ns → h ≡ row_aside u ns h i

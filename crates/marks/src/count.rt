@@ -1,23 +1,20 @@
 // The marks that rows need: how many (refusal 9), and set to 0 as they come into use.
-ghost use Rattle.std.specs.Prelude.{◌≡◌, ◌+◌, ◌*◌, ◌-◌, ◌≤◌, ◌<◌, length};
-ghost use Rattle.rows.specs.Places.{WIDTH, PLACES};
+ghost use Rattle.std.specs.Prelude.{◌≡◌, ◌-◌, ◌≤◌, length};
+ghost use Rattle.rows.specs.Places.{RowIn};
 ghost use Rattle.rows.specs.Limits.{CELL_LIMIT};
 ghost use Rattle.marks.specs.Marks.{row_marks, clear_from};
 
-use rows::kinds::Kind;
-use rows::places::{NUMBER, SECOND_NUMBER};
-use rows::store::{place, row_kind};
+use crate::numbers::{Numbers, numbers_of};
 
 // How many marks a row needs.
 pub fn row_marks(store: &[u32], row: usize) -> usize
-    requires { row * PLACES + WIDTH < length store.now }
+    requires { RowIn store.now row }
     ensures { (result ≡ row_marks store.now row) × (result ≤ CELL_LIMIT) }
 {
-    let number = place(store, row, NUMBER);
-    match row_kind(store, row) {
-        Some(Kind::Call) => 1 + number.max(place(store, row, SECOND_NUMBER)),
-        Some(Kind::Group | Kind::IfWrap) => 1 + number,
-        _ => 0,
+    match numbers_of(store, row) {
+        Numbers::Two(number, second) => 1 + number.max(second),
+        Numbers::One(number) => 1 + number,
+        Numbers::None => 0,
     }
 }
 

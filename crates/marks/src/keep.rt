@@ -1,18 +1,15 @@
 // The old marks that a dry run puts aside and back.
-ghost use Rattle.std.specs.Prelude.{◌≡◌, ◌+◌, ◌*◌, ◌-◌, ◌%◌, ◌≤◌, ◌<◌, length, get_or, set};
-ghost use Rattle.rows.specs.Places.{WIDTH, PLACES};
-ghost use Rattle.marks.specs.Marks.{clear, numbers_of, held, row_aside, put_aside, row_back, put_back, BYTE};
+ghost use Rattle.std.specs.Prelude.{◌≡◌, ◌*◌, ◌-◌, ◌≤◌, length, get_or};
+ghost use Rattle.rows.specs.Places.{PLACES, RowIn};
+ghost use Rattle.marks.specs.Marks.{clear, numbers_of, held, row_aside, put_aside, row_back, put_back};
 
-use rows::kinds::Kind;
-use rows::places::{NUMBER, PLACES, SECOND_NUMBER, WIDTH};
-use rows::store::{place, row_kind};
-
-// The values of a byte.
-const BYTE: u32 = 256;
+use crate::numbers::{Numbers, numbers_of};
+use rows::places::{PLACES, WIDTH};
+use rows::store::put;
 
 // Reads the mark of a number, and clears it if the number is not in use.
-fn take_mark(marks: &mut [u8], in_use: usize, number: usize) -> u32
-    ensures { (result ≡ get_or marks.old number 0) × ((result < BYTE) × (marks.new ≡ clear in_use number marks.old)) }
+fn take_mark(marks: &mut [u8], in_use: usize, number: usize) -> u8
+    ensures { (result ≡ get_or marks.old number 0) × (marks.new ≡ clear in_use number marks.old) }
 {
     if marks.len() <= number {
         return 0;
@@ -21,66 +18,45 @@ fn take_mark(marks: &mut [u8], in_use: usize, number: usize) -> u32
     if in_use <= number {
         marks[number] = 0;
     }
-    u32::from(old)
+    old
 }
 
-// Puts the old marks of a row's numbers aside in its width place.
+// Puts the old marks of a row's numbers aside in its width place, which is the one place of a `Group` or `Call` that nothing else is in.
+// kept: a choice by the row's numbers, which are read from the row, and not among steps that a caller has.
 fn row_aside(store: &mut [u32], marks: &mut [u8], in_use: usize, row: usize)
-    requires { row * PLACES + WIDTH < length store.old }
+    requires { RowIn store.old row }
     ensures { held store.new marks.new ≡ row_aside in_use (numbers_of store.old row) (held store.old marks.old) row }
 {
-    let number = place(store, row, NUMBER);
-    let Some(kind) = row_kind(store, row) else {
-        return;
-    };
-    match kind {
-        Kind::Call => {
-            let second = place(store, row, SECOND_NUMBER);
+    match numbers_of(store, row) {
+        Numbers::Two(number, second) => {
             let one = take_mark(marks, in_use, number);
             let two = take_mark(marks, in_use, second);
-            store[row * PLACES + WIDTH] = one + BYTE * two;
+            store[row * PLACES + WIDTH] = u32::from_le_bytes([one, two, 0, 0]);
         }
-        Kind::Group | Kind::IfWrap => {
-            store[row * PLACES + WIDTH] = take_mark(marks, in_use, number);
+        Numbers::One(number) => {
+            store[row * PLACES + WIDTH] = u32::from(take_mark(marks, in_use, number));
         }
-        _ => {}
-    }
-}
-
-// Sets the mark of a number, if there is one.
-fn set_mark(marks: &mut [u8], number: usize, mark: u8)
-    ensures { marks.new ≡ set marks.old number mark }
-{
-    if number < marks.len() {
-        marks[number] = mark;
+        Numbers::None => {}
     }
 }
 
 // Puts the old marks of a row's numbers back, and clears its width place.
 fn row_back(store: &mut [u32], marks: &mut [u8], row: usize)
-    requires { row * PLACES + WIDTH < length store.old }
+    requires { RowIn store.old row }
     ensures { held store.new marks.new ≡ row_back (numbers_of store.old row) (held store.old marks.old) row }
 {
-    let number = place(store, row, NUMBER);
-    let old = store[row * PLACES + WIDTH];
-    let Some(kind) = row_kind(store, row) else {
-        return;
-    };
-    match kind {
-        Kind::Call => {
-            set_mark(
-                marks,
-                place(store, row, SECOND_NUMBER),
-                (old / BYTE % BYTE) as u8,
-            );
-            set_mark(marks, number, (old % BYTE) as u8);
+    let [one, two, _, _] = store[row * PLACES + WIDTH].to_le_bytes();
+    match numbers_of(store, row) {
+        Numbers::Two(number, second) => {
+            put(marks, second, two);
+            put(marks, number, one);
             store[row * PLACES + WIDTH] = 0;
         }
-        Kind::Group | Kind::IfWrap => {
-            set_mark(marks, number, (old % BYTE) as u8);
+        Numbers::One(number) => {
+            put(marks, number, one);
             store[row * PLACES + WIDTH] = 0;
         }
-        _ => {}
+        Numbers::None => {}
     }
 }
 

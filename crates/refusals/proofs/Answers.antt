@@ -39,9 +39,11 @@ sets_front vs out h =
 
 module _ {A : Type 0} (given : A → List ℕ) (o : Option Refusal) (a : A) (out : List ℕ) where
   -- where the table refuses nothing, 0 is first, and behind it is what is given
-  pub told_zero : suc (length (given a)) ≤ length out → o ≡ None → numbers_of given (answer_by o a) out ≡ (0 ∷ given a) ++ drop (suc (length (given a))) out
+  pub told_zero : suc (length (given a)) ≤ length out → o ≡ None
+      → numbers_of given (answer_by o a) out ≡ (0 ∷ given a) ++ drop (suc (length (given a))) out
   told_zero h e = ap (λ (x : Option Refusal). numbers_of given (answer_by x a) out) e ∙ sets_front (0 ∷ given a) out h
 
   -- where it refuses, number and place are the first two
-  pub told_refusal : (r : Refusal) → 2 ≤ length out → o ≡ Some r → numbers_of given (answer_by o a) out ≡ (r.number ∷ r.place ∷ []) ++ drop 2 out
+  pub told_refusal : (r : Refusal) → 2 ≤ length out → o ≡ Some r
+      → numbers_of given (answer_by o a) out ≡ (r.number ∷ r.place ∷ []) ++ drop 2 out
   told_refusal r h e = ap (λ (x : Option Refusal). numbers_of given (answer_by x a) out) e ∙ sets_front (r.number ∷ r.place ∷ []) out h

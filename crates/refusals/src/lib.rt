@@ -64,6 +64,7 @@ impl Refused {
     }
 }
 
+// kept: `lines::refused_line` writes the same: `write!` to its `ArrayString` promises bytes only if it is `Ok`, and nothing promises that.
 impl fmt::Display for Refused {
     fn fmt<W: fmt::Write>(&self, f: &mut fmt::Formatter<W>) -> fmt::Result {
         write!(f, "refused {} at {}", self.number(), self.place)

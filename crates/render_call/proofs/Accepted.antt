@@ -22,9 +22,9 @@ pub record Accepted (source image : List ℕ) (state : RenderState) (args : Rend
   pub right : wrong_place source image store state.row args.stop ≡ None
   pub within : args.stop * PLACES ≤ length store
   pub ahead : state.row ≤ args.stop
-  pub indent : state.indent ≤ MAX_INDENT
-  pub next : state.next_indent ≤ MAX_INDENT
-  pub column : state.column.0 ≤ MAX_COLUMN
+  pub indent : state.pen.indent ≤ MAX_INDENT
+  pub next : state.pen.next_indent ≤ MAX_INDENT
+  pub column : state.pen.column.0 ≤ MAX_COLUMN
   pub in_use : state.in_use ≤ length marks
   pub even : odd_mark (take state.in_use marks) ≡ false
   pub enough : marks_needed (args.stop - state.row) store state.row ≤ length marks

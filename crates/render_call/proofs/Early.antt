@@ -42,11 +42,11 @@ module _ (source image : List ℕ) (state : RenderState) (args : RenderArgs) (st
     told : RenderChecked (parts_of source image) (to_args args 0) (to_state state) store marks
     told = render_checked (parts_of source image) (to_args args 0) (to_state state) store marks h.passes
 
-    pub small_sum : state.indent + state.next_indent ≤ START_MARGIN
+    pub small_sum : state.pen.indent + state.pen.next_indent ≤ START_MARGIN
     small_sum = omega (arith, told.fits.pen.indent, told.fits.pen.next_indent)
 
     -- what the pass over the rows asks for
-    pub needs_within : (margin : ℕ) → margin ≡ state.indent + state.next_indent
+    pub needs_within : (margin : ℕ) → margin ≡ state.pen.indent + state.pen.next_indent
         → (state.row ≤ args.stop) × ((args.stop * PLACES ≤ length store) × ((args.stop ≤ MAX_ROWS) × (margin ≤ START_MARGIN)))
     needs_within margin e =
         let l = small_sum in (

@@ -27,11 +27,9 @@ use Rattle.render_call.specs.declared.RenderArgs.{RenderArgs}
 use Rattle.render_call.proofs.Whole.{bytes, ends_written}
 use Rattle.render_call.proofs.Ran.{marks_in_use, gives, ran, widest_same, marks_onto, started}
 
--- t has the pen's numbers, the marks then in use, the stop as its next row, and the width
+-- t has the pen, the marks then in use, the stop as its next row, and the width
 pub record Leaves (q : Writing) (used stop chosen : ℕ) (t : RenderState) : Type 0 where
-  pub indent : t.indent ≡ q.pen.indent
-  pub next : t.next_indent ≡ q.pen.next_indent
-  pub column : t.column.0 ≡ q.pen.column.0
+  pub pen : t.pen ≡ q.pen
   pub in_use : t.in_use ≡ used
   pub row : t.row ≡ stop
   pub width : t.width.0 ≡ chosen
@@ -52,7 +50,7 @@ module _ (source image : List ℕ) (state : RenderState) (args : RenderArgs) (st
 
   module _ (p : Writing) (k : Takes state p) (past : List ℕ) where
     begun : fresh_renderer p.pen (taken ++ past) ≡ renderer_of (to_state state).pen (taken ++ past)
-    begun = started source image state args store marks ahead p (taken ++ past) k.indent k.next k.column
+    begun = started source image state args store marks ahead p (taken ++ past) k.pen
 
     pub same : drawn_by (rendered (fresh_renderer p.pen (taken ++ past))) ≡ with_past given past
     same =
@@ -83,11 +81,8 @@ module _ (source image : List ℕ) (state : RenderState) (args : RenderArgs) (st
         ∙ ap (λ (d : cut.Drawn). write_front d.text out) end)
         (r.widest ∙ widest p k behind)
       where
-        pen_same : ◌≡◌ {A = Pen} (record { indent = t.indent; next_indent = t.next_indent; column = t.column }) (drawn_by after).pen
-        pen_same = (λ i. record { indent = l.indent i; next_indent = l.next i; column = record { 0 = l.column i } }) ∙ r.pen
-
         left_state : to_state t ≡ record { pen = given.pen; in_use = max state.in_use needed; row = args.stop; width = args.width.0 }
         left_state =
             rw (l.in_use, l.row, l.width)
             (ap (λ (z : Pen). record { pen = z; in_use = max state.in_use needed; row = args.stop; width = args.width.0 })
-            (pen_same ∙ ap (λ (d : cut.Drawn). d.pen) end))
+            (l.pen ∙ r.pen ∙ ap (λ (d : cut.Drawn). d.pen) end))

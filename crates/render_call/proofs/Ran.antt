@@ -10,6 +10,7 @@ use lib.ListN.{length, take, drop, replicate, length-append, length-replicate}
 use Rattle.rows.specs.View.{view_of, nodes_at}
 use Rattle.renderer_rules.specs.Renderer.{Renderer, fresh_renderer, render_nodes}
 use Rattle.renderer_rules.specs.Page.{page_of}
+use Rattle.renderer_rules.specs.declared.Pen.{Pen}
 use Rattle.renderer.specs.declared.writing.Writing.{Writing}
 use Rattle.cut_rule.specs.Run.{write_front}
 use Rattle.cut_rule.specs.Parts.{Drawn, with_cleared, drawn_of}
@@ -70,8 +71,6 @@ module _ (source image : List ℕ) (state : RenderState) (args : RenderArgs) (st
       (sym
       (renders_length (page_of args.width.0 source image) (nodes_at (view_of store) state.row args.stop) true (renderer_of (to_state state).pen marks_in_use)))
 
-  -- the renderer that a pen with the state's numbers starts as
-  pub started : (p : Writing) (m : List ℕ) → p.pen.indent ≡ state.indent
-      → p.pen.next_indent ≡ state.next_indent → p.pen.column.0 ≡ state.column.0
-      → fresh_renderer p.pen m ≡ renderer_of (to_state state).pen m
-  started p m e f g = λ i. fresh_renderer (record { indent = e i; next_indent = f i; column = record { 0 = g i } }) m
+  -- the renderer that the state's pen starts as
+  pub started : (p : Writing) (m : List ℕ) → p.pen ≡ state.pen → fresh_renderer p.pen m ≡ renderer_of (to_state state).pen m
+  started p m e = ap (λ (x : Pen). fresh_renderer x m) e

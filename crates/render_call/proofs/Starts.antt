@@ -1,12 +1,13 @@
 -- A call that nothing refuses before its run may run.
 -- Assumes nothing.
-use mathlib.Core.Path.{sym, ◌∙◌}
+use mathlib.Core.Path.{sym, ap, ◌∙◌}
 use mathlib.Core.List.{List}
 use Prim.Native.Nat.{ℕ}
 use native.Mathlib.Omega.{arith}
 use Rattle.rows.specs.View.{view_of}
 use Rattle.rows.specs.Nesting.{Nested}
 use Rattle.renderer_rules.specs.Check.{places_fit}
+use Rattle.renderer_rules.specs.declared.Pen.{Pen}
 use Rattle.renderer_rules.proofs.Checked.{accepted_nests}
 use Rattle.rowcheck.proofs.Pending.{stop_fits}
 use Rattle.renderer.specs.Run.{Starting}
@@ -30,12 +31,12 @@ module _ (source image : List ℕ) (state : RenderState) (args : RenderArgs) (st
             a.ahead;
       }
 
-  -- from the state's next row, with a pen that has its numbers and wrote nothing yet, over rows that nest as the store's do
+  -- from the state's next row, with its pen, which wrote nothing yet, over rows that nest as the store's do
   pub starts : (rows : List ℕ) → Nested rows state.row args.stop → (p : Writing) → Takes state p → Starting rows state.row args.stop p
   starts rows nests p k =
-      let e = k.indent in
-      let f = k.next in
-      let g = k.column in
+      let e = ap (λ (x : Pen). x.indent) k.pen in
+      let f = ap (λ (x : Pen). x.next_indent) k.pen in
+      let g = ap (λ (x : Pen). x.column.0) k.pen in
       let i = a.indent in
       let n = a.next in
       let c = a.column in

@@ -45,7 +45,7 @@ module _ (source image : List ℕ) (state : RenderState) (args : RenderArgs) (st
   pub fits_most : (out : List ℕ) (n : ℕ) → n ≡ most_of state args store → n ≤ length out → Fitting source image state args store marks out
   fits_most out n f l =
       let m =
-      text_most args.width.0 source image store state.row args.stop 0 (state.indent + state.next_indent)
+      text_most args.width.0 source image store state.row args.stop 0 (state.pen.indent + state.pen.next_indent)
       (nested source image state args store marks may).nests
       true
       (renderer_of (to_state state).pen (marks_in_use source image state args store marks may.ahead))
@@ -122,9 +122,7 @@ module _ (source image : List ℕ) (state : RenderState) (args : RenderArgs)
       (Ok (record {
         written = record {
           state = record {
-            indent = q.pen.indent;
-            next_indent = q.pen.next_indent;
-            column = q.pen.column;
+            pen = q.pen;
             in_use = used;
             row = args.stop;
             width = args.width;
@@ -152,7 +150,7 @@ module _ (source image : List ℕ) (state : RenderState) (args : RenderArgs)
       in
       let room = h.room in
       finished source image state args store marks fine.ahead out p k marks3 out3 q run _ q.at h.passing.passes sized (omega arith)
-      (record { indent = refl; next = refl; column = refl; in_use = g ∙ ap (λ (z : ℕ). max state.in_use z) e; row = refl; width = refl })
+      (record { pen = refl; in_use = g ∙ ap (λ (z : ℕ). max state.in_use z) e; row = refl; width = refl })
 
 -- ---- by what the first tests say
 module _ (source image : List ℕ) (state : RenderState) (args : RenderArgs) (store marks : List ℕ) (v : Result (Unit {0}) Refused)

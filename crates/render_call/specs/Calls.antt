@@ -1,13 +1,14 @@
 -- A rendering call's state, arguments and answer as document 01's, and its refusals before it renders.
-use Rattle.std.specs.Prelude.{List, ℕ, Option, Result, Ok, Err}
-use Rattle.refusals.specs.Refusals.{Refusal, first}
+use Rattle.std.specs.Prelude.{List, [], ◌∷◌, ℕ, Option, Result, Ok, Err}
+use Rattle.refusals.specs.Refusals.{Refusal, first, refuse_if, any}
 use Rattle.refusals.specs.Reasons.{answer_of}
 use Rattle.refusals.specs.Answers.{Answer}
 use Rattle.refusals.specs.declared.Refused.{Refused}
 use Rattle.cut_rule.specs.Rules as cut
 use Rattle.cut_rule.specs.Run.{CallResult, written}
 use Rattle.cut_rule.specs.States as states
-use Rattle.cut_rule.specs.Parts.{before_marks, before_text}
+use Rattle.cut_rule.specs.Parts.{before_marks, before_text, width_line}
+use Rattle.cut_rule.specs.Tests.{render_tests}
 use Rattle.whole_run.specs.Parts.{parts_of}
 use Rattle.whole_run.specs.Demands.{rules_of}
 use Rattle.render_call.specs.declared.RenderState.{RenderState}
@@ -18,7 +19,7 @@ use Rattle.render_call.specs.declared.Drawn.{Drawn}
 -- "Rendering state: `indent`, `next_indent`, `column`, marks in use, next row"; and the width
 abbrev pub to_state : RenderState → states.RenderState
 to_state s = record {
-  pen = record { indent = s.indent; next_indent = s.next_indent; column = s.column };
+  pen = s.pen;
   in_use = s.in_use;
   row = s.row;
   width = s.width.0;
@@ -51,3 +52,11 @@ early_refusal s b args state store marks = first (before_marks (parts_of s b) (t
 -- and 9: all but 10, which alone reads the room
 abbrev pub run_refusal : List ℕ → List ℕ → RenderArgs → RenderState → List ℕ → List ℕ → Option Refusal
 run_refusal s b args state store marks = first (before_text (parts_of s b) (to_args args 0) (to_state state) store marks)
+
+-- 12 and 15 alone
+abbrev pub state_refusal : RenderArgs → RenderState → List ℕ → List ℕ → Option Refusal
+state_refusal args state store marks =
+    first
+    (refuse_if (any (render_tests (to_args args 0) (to_state state) store marks)) 12 0
+    ∷ width_line (goes_to args).choice (to_state state)
+    ∷ [])

@@ -1,2 +1,3 @@
+pub mod ByCall
 pub mod Calls
 pub mod Whole

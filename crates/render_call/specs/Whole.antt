@@ -17,7 +17,8 @@ use Rattle.render_call.specs.declared.Written.{Written}
 use Rattle.render_call.specs.declared.Drawn.{Drawn}
 
 -- the answer, and store, marks and output at exit, for one source and image: what the caller's state, arguments, store, marks and output give
-pub record RenderCalled (source image : List ℕ) (state : RenderState) (args : RenderArgs) (store marks out : List ℕ) (r : Result Written Refused) (store2 marks2 out2 : List ℕ) : Type 0 where
+pub record RenderCalled (source image : List ℕ) (state : RenderState) (args : RenderArgs) (store marks out : List ℕ)
+    (r : Result Written Refused) (store2 marks2 out2 : List ℕ) : Type 0 where
   pub answer : rendering_answer source image r ≡ render_answer (rules_of source image) (to_args args (length out)) (to_state state) store marks
   pub store_left_of : store2 ≡ store
   pub marks_left_of : marks2 ≡ render_marks (rules_of source image) (to_args args (length out)) (to_state state) store marks
@@ -31,11 +32,13 @@ widest_due source image state args store marks =
     store
 
 -- the same as a call, with the greatest column
-pub record Draws (source image : List ℕ) (state : RenderState) (args : RenderArgs) (store marks out : List ℕ) (d : Result Drawn Refused) (store2 marks2 out2 : List ℕ) : Type 0 where
+pub record Draws (source image : List ℕ) (state : RenderState) (args : RenderArgs) (store marks out : List ℕ)
+    (d : Result Drawn Refused) (store2 marks2 out2 : List ℕ) : Type 0 where
   pub called : RenderCalled source image state args store marks out (rendering_of d) store2 marks2 out2
   pub widest :
       widest_of d
-      ≡ unless ((rules_of source image).render_refusal (to_args args (length out)) (to_state state) store marks) 0 (widest_due source image state args store marks)
+      ≡ unless ((rules_of source image).render_refusal (to_args args (length out)) (to_state state) store marks) 0
+      (widest_due source image state args store marks)
 
 -- the bytes that the text has, 10's place, with store and marks as they were
 pub record Counted (source image : List ℕ) (state : RenderState) (args : RenderArgs) (store marks : List ℕ) (n : Bytes) (store2 marks2 : List ℕ) : Type 0 where
@@ -59,12 +62,11 @@ pub record Fitting (source image : List ℕ) (state : RenderState) (args : Rende
 -- the bytes that the rows give at most, with the start of the first line
 abbrev pub most_of : RenderState → RenderArgs → List ℕ → ℕ
 most_of state args store =
-    4 * (state.indent + state.next_indent) + rows_most (args.stop - state.row) (state.indent + state.next_indent) store state.row
+    let margin = state.pen.indent + state.pen.next_indent in
+    4 * margin + rows_most (args.stop - state.row) margin store state.row
 
--- p has the state's numbers, and wrote nothing yet
+-- p has the state's pen, and wrote nothing yet
 pub record Takes (state : RenderState) (p : Writing) : Type 0 where
-  pub indent : p.pen.indent ≡ state.indent
-  pub next : p.pen.next_indent ≡ state.next_indent
-  pub column : p.pen.column.0 ≡ state.column.0
+  pub pen : p.pen ≡ state.pen
   pub at : p.at.0 ≡ 0
   pub widest : p.widest.0 ≡ 0

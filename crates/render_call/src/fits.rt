@@ -1,15 +1,14 @@
 // Refusal 12, as far as it is of rendering: a function for each group of tests; and 15 after it.
-ghost use Rattle.std.specs.Prelude.{◌≡◌, not, [], ◌∷◌};
-ghost use Rattle.refusals.specs.Refusals.{first, refuse_if, any};
+ghost use Rattle.std.specs.Prelude.{◌≡◌, not};
+ghost use Rattle.refusals.specs.Refusals.{any};
 ghost use Rattle.cut_rule.specs.Tests.{rows_in, row_tests, pen_tests, mark_tests, render_tests};
-ghost use Rattle.cut_rule.specs.Parts.{width_line};
-ghost use Rattle.render_call.specs.Calls.{to_state, goes_to, to_args};
+ghost use Rattle.render_call.specs.Calls.{to_state, to_args, state_refusal};
 ghost use Rattle.refusals.specs.Reasons.{refusal_in};
 
-use crate::RenderState;
 use crate::call::Call;
 use crate::width::width_fits;
 use refusals::{Reason, Refused};
+use renderer_rules::Pen;
 use rows::limits::MAX_ROWS;
 use rows::places::PLACES;
 
@@ -26,10 +25,10 @@ fn row_fits(row: usize, stop: usize, store: &[u32]) -> bool
 }
 
 // Whether `indent`, `next_indent` and `column` are within their limits.
-fn pen_fits(state: RenderState) -> bool
-    ensures { result ≡ not (any (pen_tests (to_state state).pen)) }
+fn pen_fits(pen: Pen) -> bool
+    ensures { result ≡ not (any (pen_tests pen)) }
 {
-    state.indent <= MAX_INDENT && state.next_indent <= MAX_INDENT && state.column.0 <= MAX_COLUMN
+    pen.indent <= MAX_INDENT && pen.next_indent <= MAX_INDENT && pen.column.0 <= MAX_COLUMN
 }
 
 // Whether the marks in use are in the buffer, and each 0 or 1.
@@ -39,24 +38,26 @@ fn marks_fit(marks: &[u8], used: usize) -> bool
     used <= marks.len() && !marks[..used].iter().any(|mark| 1 < *mark)
 }
 
-// Whether the state is one that this call may have.
-fn state_fits(call: &Call<'_>, store: &[u32], marks: &[u8]) -> bool
-    ensures { result ≡ not (any (render_tests (to_args call.now.args 0) (to_state call.now.state) store.now marks.now)) }
-{
-    row_fits(call.state.row, call.args.stop, store)
-        && pen_fits(call.state)
-        && marks_fit(marks, call.state.in_use)
-}
+impl Call<'_> {
+    // Whether the state is one that this call may have.
+    fn state_fits(&self, store: &[u32], marks: &[u8]) -> bool
+        ensures { result ≡ not (any (render_tests (to_args self.now.args 0) (to_state self.now.state) store.now marks.now)) }
+    {
+        row_fits(self.state.row, self.args.stop, store)
+            && pen_fits(self.state.pen)
+            && marks_fit(marks, self.state.in_use)
+    }
 
-// Refusals 12 and 15.
-pub(crate) fn state_refusal(call: &Call<'_>, store: &[u32], marks: &[u8]) -> Result<(), Refused>
-    ensures { refusal_in result ≡ first (refuse_if (any (render_tests (to_args call.now.args 0) (to_state call.now.state) store.now marks.now)) 12 0 ∷ width_line (goes_to call.now.args).choice (to_state call.now.state) ∷ []) }
-{
-    if !state_fits(call, store, marks) {
-        return Err(Reason::State.at(0));
+    // Refusals 12 and 15.
+    pub(crate) fn state_refusal(&self, store: &[u32], marks: &[u8]) -> Result<(), Refused>
+        ensures { refusal_in result ≡ state_refusal self.now.args self.now.state store.now marks.now }
+    {
+        if !self.state_fits(store, marks) {
+            return Err(Reason::State.at(0));
+        }
+        if !width_fits(self.args.width, self.state.width) {
+            return Err(Reason::Width.at(0));
+        }
+        Ok(())
     }
-    if !width_fits(call.args.width, call.state.width) {
-        return Err(Reason::Width.at(0));
-    }
-    Ok(())
 }

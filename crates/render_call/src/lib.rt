@@ -1,7 +1,7 @@
 // Rendering calls: state, arguments, answer, and the call.
 #![tactic(auto)]
 
-mod call;
+pub mod call;
 mod dry_run;
 mod fits;
 mod refusal;
@@ -10,20 +10,19 @@ mod run;
 pub mod width;
 
 ghost use Rattle.render_call.specs.Whole.{RenderCalled, Draws, Checked};
+ghost use Rattle.render_call.specs.ByCall.{of_call};
 
 use crate::call::Call;
-use crate::refusal::refusal;
 use crate::room::rows_need;
-use crate::run::render_accepted;
 use refusals::{Reason, Refused};
+use renderer_rules::Pen;
 use rows::units::{Bytes, Columns};
 
-// `indent`, `next_indent`, `column`, marks in use, next row, width (0: none yet).
-#[derive(Clone, Copy, Debug, PartialEq, Eq)]
+// `indent`, `next_indent` and `column`, marks in use, next row, width (0: none yet).
+// kept: 0 and no Option: C lends the width of a state as a number.
+#[derive(Clone, Copy, Debug, Default, PartialEq, Eq)]
 pub struct RenderState {
-    pub indent: usize,
-    pub next_indent: usize,
-    pub column: Columns,
+    pub pen: Pen,
     pub in_use: usize,
     pub row: usize,
     pub width: Columns,
@@ -50,35 +49,29 @@ pub struct Drawn {
     pub widest: Columns,
 }
 
-// A rendering call that 1, 3, 11, 12 and 15 do not refuse.
-// kept: here and below, each of what a caller lends by itself, as C lends it to `render_call`; below they are one `Call`.
-pub fn render_checked(
-    source: &[u8],
-    image: &[u8],
-    store: &mut [u32],
-    marks: &mut [u8],
-    out: &mut [u8],
-    state: RenderState,
-    args: RenderArgs,
-) -> Result<Drawn, Refused>
-    requires { Checked source.now image.now state args store.old marks.old }
-    ensures { Draws source.now image.now state args store.old marks.old out.old result store.new marks.new out.new }
-{
-    let from = state.row;
-    let n = rows_need(store, from, args.stop, state.indent + state.next_indent);
-    if marks.len() < n.marks {
-        return Err(Reason::MarksNeeded.at(n.marks));
+impl Call<'_> {
+    // A rendering call that 1, 3, 11, 12 and 15 do not refuse.
+    pub fn render_checked(
+        &self,
+        store: &mut [u32],
+        marks: &mut [u8],
+        out: &mut [u8],
+    ) -> Result<Drawn, Refused>
+        requires { of_call Checked self.now store.old marks.old }
+        ensures { of_call Draws self.now store.old marks.old out.old result store.new marks.new out.new }
+    {
+        let pen = self.state.pen;
+        let margin = pen.indent + pen.next_indent;
+        let needs = rows_need(store, self.state.row, self.args.stop, margin);
+        if marks.len() < needs.marks {
+            return Err(Reason::MarksNeeded.at(needs.marks));
+        }
+        self.render_accepted(store, marks, out, needs)
     }
-    let call = Call {
-        source,
-        image,
-        state,
-        args,
-    };
-    render_accepted(&call, store, marks, out, n)
 }
 
 // A rendering call: renders the rows from the state's next row up to a stop.
+// kept: one parameter for each thing that C lends; the functions that this one calls take a `Call`.
 pub fn render_call(
     source: &[u8],
     image: &[u8],
@@ -96,7 +89,6 @@ pub fn render_call(
         state,
         args,
     };
-    refusal(&call, store, marks)?;
-    let drawn = render_checked(source, image, store, marks, out, state, args)?;
-    Ok(drawn.written)
+    call.refusal(store, marks)?;
+    Ok(call.render_checked(store, marks, out)?.written)
 }

@@ -1,7 +1,7 @@
 -- Whether a group wraps and which way a call goes, from what the code measured.
 -- Assumes nothing.
 use mathlib.Core.Path.{◌≡◌, refl, ap, sym, ◌∙◌}
-use Prim.Native.Nat.{ℕ, ◌+◌, ◌*◌, ◌≤◌, ◌<◌, min}
+use Prim.Native.Nat.{ℕ, ◌+◌, ◌*◌, ◌≤◌, ◌<◌}
 use native.Mathlib.Omega.{arith}
 use mathlib.Core.Bool.{Bool, true, false, cond, not, ◌&&◌, ◌||◌}
 use mathlib.Core.List.{List, []}
@@ -72,12 +72,16 @@ module _ (max : ℕ) (p : Pen) (m : List ℕ) where
     unfolding trailing_call
     trail_arguments h k = rw (← h, ← k)
 
-    pub trail_long : (x : ℕ) → over ≡ true → false ≡ must_wraps e → false ≡ must_wraps a → x ≡ min (max + 1) (widths byte_columns m e)
+    pub trail_long : (x : ℕ) → over ≡ true → false ≡ must_wraps e → false ≡ must_wraps a → x ≡ widths byte_columns m e
         → ltb (virtual_column p + x + 1) max ≡ trailing_call (page_of max [] []) e a (fresh_renderer p m)
     unfolding trailing_call
-    trail_long x u h k i =
-        ltb_same (virtual_column p + x + 1) max (virtual_column p + widths byte_columns m e + 1) max (λ q. omega arith) (λ q. omega arith)
-        ∙ sym (rw (← h, ← k, both ∙ u))
+    trail_long x u h k i = ap (λ (n : ℕ). ltb (virtual_column p + n + 1) max) i ∙ sym (rw (← h, ← k, both ∙ u))
+
+    -- a callee that is wider than the line
+    pub trail_past : over ≡ true → false ≡ must_wraps e → false ≡ must_wraps a → max < widths byte_columns m e
+        → false ≡ trailing_call (page_of max [] []) e a (fresh_renderer p m)
+    unfolding trailing_call
+    trail_past u h k i = sym (le-ltb (virtual_column p + widths byte_columns m e + 1) max (omega arith)) ∙ sym (rw (← h, ← k, both ∙ u))
 
     -- where the callee keeps its line it does not wrap
     kept : trailing_call (page_of max [] []) e a (fresh_renderer p m) ≡ true → group_wraps (page_of max [] []) e (fresh_renderer p m) ≡ false

@@ -29,7 +29,8 @@ use Rattle.renderer.specs.Run.{passed_run, closed_at, inserted, GroupOpened, Cal
 use Rattle.renderer.proofs.Written.{over_join}
 use Rattle.renderer.proofs.Framed.{under, fresh_under, leaf_under}
 
-pub wrote_more : (limit : ℕ) (o out : List ℕ) (at : ℕ) (b t out2 : List ℕ) (at2 : ℕ) → Wrote limit o out at b → out2 ≡ written_over limit out at t
+pub wrote_more : (limit : ℕ) (o out : List ℕ) (at : ℕ) (b t out2 : List ℕ) (at2 : ℕ) → Wrote limit o out at b
+    → out2 ≡ written_over limit out at t
     → at2 ≡ at + length t
     → Wrote limit o out2 at2 (b ++ t)
 wrote_more limit o out at b t out2 at2 w e f =
@@ -37,13 +38,16 @@ wrote_more limit o out at b t out2 at2 w e f =
     let c = w.bytes in
     record {
       bytes = omega arith;
-      written = e ∙ rw (c, w.written) (ap (λ (n : ℕ). written_over limit (written_over limit o 0 b) n t) (none_before (length b)) ∙ over_join limit o 0 b t);
+      written =
+          e
+          ∙ rw (c, w.written) (ap (λ (n : ℕ). written_over limit (written_over limit o 0 b) n t) (none_before (length b)) ∙ over_join limit o 0 b t);
     }
   where
     none_before : (n : ℕ) → n ≡ 0 + n
     none_before n = omega arith
 
-pub shows_as : (limit : ℕ) (o marks out : List ℕ) (r : Running) (m m2 : Machine) → m ≡ m2 → Shows limit o marks out r m2 → Shows limit o marks out r m
+pub shows_as : (limit : ℕ) (o marks out : List ℕ) (r : Running) (m m2 : Machine) → m ≡ m2 → Shows limit o marks out r m2
+    → Shows limit o marks out r m
 shows_as limit o marks out r m m2 e s = subst (λ (x : Machine). Shows limit o marks out r x) (sym e) s
 
 -- what groups and calls decide by is the pen and the marks
@@ -67,7 +71,8 @@ unfolding insert
 insert_same w n p marks b = refl
 
 -- a row is opened
-opened_shows : (limit : ℕ) (o out b : List ℕ) (n : ℕ) (r : Running) (marks marks2 : List ℕ) (q : Running) (f : Frame) (k k2 : ℕ) (p : Writing) (t : Renderer)
+opened_shows : (limit : ℕ) (o out b : List ℕ) (n : ℕ) (r : Running) (marks marks2 : List ℕ) (q : Running) (f : Frame) (k k2 : ℕ)
+    (p : Writing) (t : Renderer)
     → Wrote limit o out r.writing.at.0 b
     → q ≡ opened_run r f k2 p
     → k ≡ k2
@@ -251,7 +256,8 @@ module _ (store source image : List ℕ) (max limit : ℕ) (marks out : List ℕ
   leaf_goes x out2 p e k l d o b n w =
       rw (← e, leaf_state x k l b) (leaf_shows (render_node pg (node_at v r.next) x (fresh_renderer r.writing.pen [])) out2 p d o b n w)
 
-  pub leaf_follows : (x : Bool) (out2 : List ℕ) (p : Writing) → WRAP_PARENT ≤ cell store r.next KIND → cell store r.next KIND ≤ LINE_OR_SPACE → x ≡ wrap
+  pub leaf_follows : (x : Bool) (out2 : List ℕ) (p : Writing) → WRAP_PARENT ≤ cell store r.next KIND
+      → cell store r.next KIND ≤ LINE_OR_SPACE → x ≡ wrap
       → Writes limit (render_node pg (node_at v r.next) x (fresh_renderer r.writing.pen [])) out r.writing out2 p
       → Follows limit (enter v pg) marks out r marks out2 (passed_run r p)
   unfolding machine_of view_of
@@ -292,7 +298,8 @@ module _ (store source image : List ℕ) (max limit : ℕ) (marks out : List ℕ
           wrote = w;
         })
 
-    pub arguments_follows : (marks2 : List ℕ) (q : Running) → cell store f.row KIND ≡ CALL → f.first ≡ true → ArgumentsOpened store max marks r f marks2 q
+    pub arguments_follows : (marks2 : List ℕ) (q : Running) → cell store f.row KIND ≡ CALL → f.first ≡ true
+        → ArgumentsOpened store max marks r f marks2 q
         → Follows limit (turn v pg) marks out r marks2 out q
     arguments_follows marks2 q k y g = record { goes = λ o b n w. shows_as limit o marks2 out q _ _ (turned b n) (on_goes marks2 q k y g o b n w) }
 

@@ -48,13 +48,15 @@ line_under : (b m : List ℕ) (u : ℕ) (s : Renderer) → new_line (under b m u
 unfolding new_line under
 line_under b m u s = rw (append_assoc b s.buf (cond (ltb 0 s.pen.column.0) (0x0A ∷ []) []))
 
-cond_under : (w : Bool) (b m : List ℕ) (u : ℕ) (s t s2 t2 : Renderer) → s2 ≡ under b m u s → t2 ≡ under b m u t → cond w s2 t2 ≡ under b m u (cond w s t)
+cond_under : (w : Bool) (b m : List ℕ) (u : ℕ) (s t s2 t2 : Renderer) → s2 ≡ under b m u s → t2 ≡ under b m u t
+    → cond w s2 t2 ≡ under b m u (cond w s t)
 cond_under true b m u s t s2 t2 e f = e
 cond_under false b m u s t s2 t2 e f = f
 
 put_under : (t : List ℕ) (c : ℕ) (b m : List ℕ) (u : ℕ) (s s2 : Renderer) → s2 ≡ under b m u s
     → at_column c (push_str t s2) ≡ under b m u (at_column c (push_str t s))
-put_under t c b m u s s2 e = ap (λ (x : Renderer). at_column c (push_str t x)) e ∙ ap (at_column c) (push_under t b m u s) ∙ column_under c b m u (push_str t s)
+put_under t c b m u s s2 e =
+    ap (λ (x : Renderer). at_column c (push_str t x)) e ∙ ap (at_column c) (push_under t b m u s) ∙ column_under c b m u (push_str t s)
 
 text_under : (t : List ℕ) (w : ℕ) (b m : List ℕ) (u : ℕ) (s : Renderer) → text t w (under b m u s) ≡ under b m u (text t w s)
 unfolding text
@@ -65,7 +67,8 @@ text_under t w b m u s = go (ltb 0 s.pen.column.0) (ltb 0 (under b m u s).pen.co
         ≡ under b m u (at_column ((cond x s (margin s)).pen.column.0 + w) (push_str t (cond x s (margin s))))
     go true y e =
         rw e
-        (ap (λ (c : ℕ). at_column (c + w) (push_str t (under b m u s))) (column_of b m u s) ∙ put_under t (s.pen.column.0 + w) b m u s (under b m u s) refl)
+        (ap (λ (c : ℕ). at_column (c + w) (push_str t (under b m u s))) (column_of b m u s)
+        ∙ put_under t (s.pen.column.0 + w) b m u s (under b m u s) refl)
     go false y e =
         rw e
         (ap (λ (c : ℕ). at_column (c + w) (push_str t (margin (under b m u s))))
@@ -79,7 +82,9 @@ comment_under t b m u s = go (ltb 0 s.pen.column.0) (ltb 0 (under b m u s).pen.c
     go : (x y : Bool) → y ≡ x
         → at_column 0 (push_str (t ++ (0x0A ∷ [])) (cond y (push_str (0x20 ∷ []) (under b m u s)) (margin (under b m u s))))
         ≡ under b m u (at_column 0 (push_str (t ++ (0x0A ∷ [])) (cond x (push_str (0x20 ∷ []) s) (margin s))))
-    go true y e = rw e (put_under (t ++ (0x0A ∷ [])) 0 b m u (push_str (0x20 ∷ []) s) (push_str (0x20 ∷ []) (under b m u s)) (push_under (0x20 ∷ []) b m u s))
+    go true y e =
+        rw e
+        (put_under (t ++ (0x0A ∷ [])) 0 b m u (push_str (0x20 ∷ []) s) (push_str (0x20 ∷ []) (under b m u s)) (push_under (0x20 ∷ []) b m u s))
     go false y e = rw e (put_under (t ++ (0x0A ∷ [])) 0 b m u (margin s) (margin (under b m u s)) (margin_under b m u s))
 
 pub leaf_under : (v : View) (pg : Page) (i : ℕ) (w : Bool) (k : ℕ) → v.kind i ≡ k → 3 ≤ k → k ≤ 9 → (b m : List ℕ) (u : ℕ) (s : Renderer)

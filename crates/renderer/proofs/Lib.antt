@@ -8,4 +8,5 @@ pub mod Outcome
 pub mod Running
 pub mod Stepped
 pub mod Sums
+pub mod Turned
 pub mod Written

@@ -28,8 +28,12 @@ pen_set p r = record { frames = r.frames; depth = r.depth; next = r.next; writin
 module _ (store : List ℕ) (max : ℕ) (marks : List ℕ) (r : Running) (marks2 : List ℕ) (q : Running) where
   pub call_opened : (mid end number : ℕ) (t w deeper : Bool) (p : Pen) (x : Writing) → mid ≡ cell store r.next SECOND → end ≡ cell store r.next AFTER
       → number ≡ cell store r.next NUMBER
-      → t ≡ trailing_call (page_of max [] []) (nodes_at (view_of store) (r.next + 1) mid) (nodes_at (view_of store) mid end) (fresh_renderer r.writing.pen marks)
-      → w ≡ callee_wraps (page_of max [] []) t (nodes_at (view_of store) (r.next + 1) mid) (nodes_at (view_of store) mid end) (fresh_renderer r.writing.pen marks)
+      → t
+      ≡ trailing_call (page_of max [] []) (nodes_at (view_of store) (r.next + 1) mid) (nodes_at (view_of store) mid end)
+      (fresh_renderer r.writing.pen marks)
+      → w
+      ≡ callee_wraps (page_of max [] []) t (nodes_at (view_of store) (r.next + 1) mid) (nodes_at (view_of store) mid end)
+      (fresh_renderer r.writing.pen marks)
       → deeper ≡ (not t && w)
       → p ≡ next_indent_more deeper r.writing.pen
       → x ≡ set_pen p r.writing

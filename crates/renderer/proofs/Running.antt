@@ -26,11 +26,12 @@ use Rattle.renderer_rules.specs.Safe.{Safe, SmallTexts, steps, ins}
 use Rattle.renderer_rules.proofs.Safe.{turn_safe}
 use Rattle.renderer.specs.declared.writing.Writing.{Writing}
 use Rattle.renderer.specs.Output.{written_over}
-use Rattle.renderer.specs.Run.{Running, with_frames, machine_of, Wrote, Shows, Follows, Ready, Starting, Ended}
+use Rattle.renderer.specs.Run.{Running, machine_of, Wrote, Shows, Follows, Ready, Starting, Ended}
 use Rattle.renderer.proofs.Written.{over_length, text_fits}
 
 -- numbers of 32 bits
-pub small_cells : (max : ℕ) (source image store : List ℕ) → ((k : ℕ) → get_or store k 0 < CELL_LIMIT) → SmallTexts (view_of store) (page_of max source image)
+pub small_cells : (max : ℕ) (source image store : List ℕ) → ((k : ℕ) → get_or store k 0 < CELL_LIMIT)
+    → SmallTexts (view_of store) (page_of max source image)
 unfolding view_of
 small_cells max source image store h =
     record {
@@ -68,9 +69,10 @@ module _ (store source image : List ℕ) (max limit stop : ℕ) where
   abbrev pub due : List ℕ → ℕ → Writing → Renderer
   due marks from p = render_nodes pg (nodes_at v from stop) true (fresh_renderer p.pen marks)
 
-  pub going_start : (out marks : List ℕ) (from : ℕ) (p : Writing) (fs : Frames) → fs.depth ≡ 0 → length fs.items ≡ MAX_DEPTH → limit ≤ length out → SmallTexts v pg
+  pub going_start : (out marks : List ℕ) (from : ℕ) (p : Writing) (fs : Frames) → fs.depth ≡ 0 → length fs.items ≡ MAX_DEPTH
+      → limit ≤ length out → SmallTexts v pg
       → Starting store from stop p
-      → Going (due marks from p) out marks out (with_frames fs (record { next = from; writing = p }))
+      → Going (due marks from p) out marks out (record { frames = fs.items; depth = fs.depth; next = from; writing = p })
   unfolding machine_of meaning rest part_limit wrap_at Under steps ins written_over
   going_start out marks from p fs z e l s g =
       let c = g.column in

@@ -252,7 +252,8 @@ module _ (store source image : List ℕ) (max limit stop : ℕ) (marks out : Lis
                 (rw (z, i) opened_row.later);
           }
 
-      closing_closes : (t : Renderer) → (cell store f.row KIND ≡ CALL → f.first ≡ false) → closing v pg f t ≡ on_pen (closes (cell store f.row KIND) f) t
+      closing_closes : (t : Renderer) → (cell store f.row KIND ≡ CALL → f.first ≡ false)
+          → closing v pg f t ≡ on_pen (closes (cell store f.row KIND) f) t
       unfolding view_of
       closing_closes t e =
           go (eqb (cell store f.row KIND) INDENT) (eqb (cell store f.row KIND) INDENT_NEXT) (eqb (cell store f.row KIND) CALL) refl refl refl

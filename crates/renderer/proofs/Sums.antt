@@ -2,15 +2,12 @@
 -- the first parts of `IfWrap` rows open.
 -- Assumes nothing.
 use mathlib.Core.Path.{◌≡◌, refl, sym, ap, ◌∙◌, subst}
-use Prim.Native.Nat.{ℕ, suc, ◌+◌, ◌*◌, ◌-◌, ◌≤◌, ◌<◌, min}
+use Prim.Native.Nat.{ℕ, suc, ◌+◌, ◌*◌, ◌-◌, ◌≤◌, ◌<◌}
 use native.Mathlib.Omega.{arith}
 use native.Mathlib.Numerals.{add-one}
 use mathlib.Core.Bool.{true, false}
 use mathlib.Core.List.{List, [], ◌∷◌}
 use lib.ListN.{length}
-use borrow.Author.Rules.{rules}
-use Rattle.std.specs.Prelude.{Option, Some, None, IsSome}
-use Rattle.rows.specs.Stack.{Popped}
 use Rattle.rows.specs.Limits.{CELL_LIMIT, MAX_DEPTH, MAX_ROWS}
 use Rattle.rows.specs.Kinds.{IF_WRAP}
 use Rattle.rows.specs.Places.{KIND, NUMBER, SECOND, AFTER}
@@ -43,7 +40,8 @@ module _ (s m : List ℕ) (from to : ℕ) where
     ahead = p.nests 0 n.nests
 
     -- any row but an `IfWrap`
-    pub passed : (k w : ℕ) → k ≡ cell s row KIND → (k ≡ 10 → ⊥) → w ≡ own_width s row k → w < CELL_LIMIT → Passed s m from to (row + 1) (sum + w)
+    pub passed : (k w : ℕ) → k ≡ cell s row KIND → (k ≡ 10 → ⊥) → w ≡ own_width s row k → w < CELL_LIMIT
+        → Passed s m from to (row + 1) (sum + w)
     passed k w e x q r =
         let kind = kind_cell s row ∙ sym e in
         let own = own_same s m row k e in
@@ -91,8 +89,8 @@ module _ (s m : List ℕ) (from to : ℕ) where
         record { width = omega arith; cap = omega arith }
 
     -- the sum came to the end
-    pub ended : (r : ℕ) → to ≤ row → r ≡ min (room + 1) sum → Measures s m from to room r
-    ended r h e =
+    pub ended : to ≤ row → sum ≤ room → Measures s m from to room sum
+    ended h e =
         let a = p.width in
         let b = p.cap in
         let c = nests_le (p.nests 0 n.nests) in
@@ -235,11 +233,6 @@ module _ (s m : List ℕ) (from to : ℕ) (ends : List ℕ) (row end sum : ℕ) 
   unfolding Fine
   inner n h e = let f = rw e at t.fine in let x = reached in omega arith
 
--- what is taken off is there, unless nothing is
-pub popped_some : (old new : List ℕ) (o : Option ℕ) → Popped old o new → (old ≡ [] → ⊥) → IsSome o
-popped_some old new (Some x) p n = search rules
-popped_some old new None p n = absurd (n p.0)
-
 -- a first part is over: the part that is not chosen is passed over
 pub leaves : (s m : List ℕ) (from to : ℕ) (x : ℕ) (xs : List ℕ) (row sum : ℕ) → Open s m from to (x ∷ xs) row row sum
     → (row < (view_of s).after row) × Open s m from to xs ((view_of s).after row) x sum
@@ -251,7 +244,8 @@ leaves s m from to x xs row sum t =
     let u = t.fine.0 in
     (u, record { width = omega arith; nests = t.fine.1; fine = t.fine.2; cap = omega arith })
 
-pub leaves_at : (s m : List ℕ) (from to : ℕ) (ends : List ℕ) (row end sum next x : ℕ) (xs : List ℕ) → Open s m from to ends row end sum → end ≤ row
+pub leaves_at : (s m : List ℕ) (from to : ℕ) (ends : List ℕ) (row end sum next x : ℕ) (xs : List ℕ) → Open s m from to ends row end sum
+    → end ≤ row
     → ends ≡ x ∷ xs
     → next ≡ cell s row AFTER → (row < next) × Open s m from to xs next x sum
 leaves_at s m from to ends row end sum next x xs t n h e =

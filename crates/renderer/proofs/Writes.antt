@@ -25,7 +25,9 @@ plus_none : (n : ℕ) → n ≡ n + 0
 plus_none n = omega arith
 
 -- the output keeps its length, so that what is written next has the same limit
-pub writes_length : (limit : ℕ) (s : Renderer) (out : List ℕ) (p : Writing) (out2 : List ℕ) (q : Writing) → Writes limit s out p out2 q → length out2 ≡ length out
+pub writes_length : (limit : ℕ) (s : Renderer) (out : List ℕ) (p : Writing) (out2 : List ℕ) (q : Writing)
+    → Writes limit s out p out2 q
+    → length out2 ≡ length out
 writes_length limit s out p out2 q d = ap length d.written ∙ over_length limit out p.at.0 s.buf
 
 module _ {s : Renderer} {out : List ℕ} {p : Writing} {out2 : List ℕ} {q : Writing} (d : Writes (length out) s out p out2 q) where
@@ -51,7 +53,8 @@ pub push_writes : (limit : ℕ) (t out : List ℕ) (p : Writing) (out2 : List �
 unfolding push_str writing_after
 push_writes limit t out p out2 n e w = record { after = rw (e, max-zero p.widest.0); written = w }
 
-pub push_pen : (limit : ℕ) (t out : List ℕ) (p : Writing) (out2 : List ℕ) (q : Writing) → Writes limit (push_str t (fresh_renderer p.pen [])) out p out2 q
+pub push_pen : (limit : ℕ) (t out : List ℕ) (p : Writing) (out2 : List ℕ) (q : Writing)
+    → Writes limit (push_str t (fresh_renderer p.pen [])) out p out2 q
     → q.pen ≡ p.pen
 unfolding push_str writing_after
 push_pen limit t out p out2 q d = ap (λ (x : Writing). x.pen) d.after
@@ -65,7 +68,8 @@ unfolding at_column push_str writing_after
 put_writes limit t c out p out2 q n e m w = record { after = m ∙ rw (e, zero_max c); written = w }
 
 -- a margin of n bytes and c columns
-pub margin_writes : (limit : ℕ) (out : List ℕ) (p : Writing) (out2 : List ℕ) (q : Writing) (n c : ℕ) → n ≡ 4 * p.pen.indent → c ≡ 4 * p.pen.indent
+pub margin_writes : (limit : ℕ) (out : List ℕ) (p : Writing) (out2 : List ℕ) (q : Writing) (n c : ℕ) → n ≡ 4 * p.pen.indent
+    → c ≡ 4 * p.pen.indent
     → q ≡ moved_to c (p.at.0 + n) p
     → out2 ≡ written_over limit out p.at.0 (replicate n 0x20)
     → Writes limit (margin (fresh_renderer p.pen [])) out p out2 q
@@ -74,7 +78,8 @@ margin_writes limit out p out2 q n c e f m w =
     record { after = m ∙ rw (e, f, length-replicate {A = ℕ} (4 * p.pen.indent) 0x20, zero_max (4 * p.pen.indent)); written = rw e at w }
 
 -- a line's end, and the pen on the next
-pub line_writes : (limit : ℕ) (out : List ℕ) (p : Writing) (pen : Pen) (out2 : List ℕ) (q r : Writing) → pen ≡ on_new_line p.pen → 0 < p.pen.column.0
+pub line_writes : (limit : ℕ) (out : List ℕ) (p : Writing) (pen : Pen) (out2 : List ℕ) (q r : Writing) → pen ≡ on_new_line p.pen
+    → 0 < p.pen.column.0
     → Writes limit (push_str (0x0A ∷ []) (fresh_renderer p.pen [])) out p out2 q
     → r ≡ set_pen pen q
     → Writes limit (new_line (fresh_renderer p.pen [])) out p out2 r
@@ -82,7 +87,8 @@ unfolding new_line push_str writing_after
 line_writes limit out p pen out2 q r e h a m =
     rw (lt-ltb 0 p.pen.column.0 h) (record { after = m ∙ rw (e, a.after); written = a.written })
 
-pub none_writes : (limit : ℕ) (out : List ℕ) (p : Writing) (pen : Pen) (q : Writing) → pen ≡ on_new_line p.pen → q ≡ set_pen pen p → p.pen.column.0 ≤ 0
+pub none_writes : (limit : ℕ) (out : List ℕ) (p : Writing) (pen : Pen) (q : Writing) → pen ≡ on_new_line p.pen → q ≡ set_pen pen p
+    → p.pen.column.0 ≤ 0
     → Writes limit (new_line (fresh_renderer p.pen [])) out p out q
 unfolding new_line writing_after written_over
 none_writes limit out p pen q e m h =
@@ -90,7 +96,8 @@ none_writes limit out p pen q e m h =
     (record { after = ap₂ (writing (on_new_line p.pen)) (plus_none p.at.0) (sym (max-zero p.widest.0)); written = refl })
 
 -- the same numbers, with a text behind
-pub then_put : (limit : ℕ) (s : Renderer) (t : List ℕ) (c : ℕ) (out : List ℕ) (p : Writing) (out2 : List ℕ) (q : Writing) (out3 : List ℕ) (r : Writing)
+pub then_put : (limit : ℕ) (s : Renderer) (t : List ℕ) (c : ℕ) (out : List ℕ) (p : Writing) (out2 : List ℕ) (q : Writing)
+    (out3 : List ℕ) (r : Writing)
     → Writes limit s out p out2 q
     → Writes limit (at_column c (push_str t (fresh_renderer q.pen []))) out2 q out3 r
     → Writes limit (at_column c (push_str t s)) out p out3 r
@@ -165,7 +172,8 @@ unfolding writing_after
 writes_column limit s out p out2 q d = ap (λ (x : Writing). x.pen.column.0) d.after
 
 -- a text and the end of its line
-pub ended : (limit : ℕ) (t out : List ℕ) (p : Writing) (q : Writing) (n : ℕ) (out2 out3 : List ℕ) → n ≡ length t → q ≡ moved_to 0 (p.at.0 + n + 1) p
+pub ended : (limit : ℕ) (t out : List ℕ) (p : Writing) (q : Writing) (n : ℕ) (out2 out3 : List ℕ) → n ≡ length t
+    → q ≡ moved_to 0 (p.at.0 + n + 1) p
     → out2 ≡ written_over limit out p.at.0 t
     → out3 ≡ written_over limit out2 (p.at.0 + n) (0x0A ∷ [])
     → Writes limit (at_column 0 (push_str (t ++ (0x0A ∷ [])) (fresh_renderer p.pen []))) out p out3 q
@@ -195,7 +203,8 @@ pub before_none : (limit : ℕ) (b : Bool) (out : List ℕ) (p : Writing) → (p
 unfolding before_text
 before_none limit b out p h e = rw (lt-ltb 0 p.pen.column.0 (omega arith), e) (writes_none limit out p)
 
-pub text_writes : (limit : ℕ) (b : Bool) (t : List ℕ) (w : ℕ) (out : List ℕ) (p : Writing) (out2 : List ℕ) (q : Writing) (out3 : List ℕ) (r : Writing)
+pub text_writes : (limit : ℕ) (b : Bool) (t : List ℕ) (w : ℕ) (out : List ℕ) (p : Writing) (out2 : List ℕ) (q : Writing)
+    (out3 : List ℕ) (r : Writing)
     → b ≡ false
     → Writes limit (before_text b (fresh_renderer p.pen [])) out p out2 q
     → Writes limit (at_column (q.pen.column.0 + w) (push_str t (fresh_renderer q.pen []))) out2 q out3 r

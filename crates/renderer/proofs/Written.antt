@@ -7,11 +7,11 @@ use native.Mathlib.Numerals.{add-one}
 use mathlib.Core.Bool.{Bool, true, false, cond}
 use mathlib.Core.List.{List, [], ◌∷◌, ◌++◌}
 use lib.ListN.{length, set, take, drop, replicate, length-set, length-take, length-drop, length-replicate, drop_of_length-le}
-use lib.Seq.{sets, take-nil}
+use lib.Seq.{sets, set_out, take-nil}
 use Rattle.std.proofs.lemmas.List.{take_min}
 use borrow.Rule.Slice.PartMut.{put_mid, mid_of, mid_len}
 use lib.Dec.{ltb, leb}
-use borrow.Author.Tests.{lt-ltb, le-ltb, leb-true, leb-false}
+use borrow.Author.Tests.{lt-ltb, le-ltb, ltb-true, ltb-false, leb-true, leb-false}
 use Rattle.rows.proofs.Part.{part_sets}
 use Rattle.rows.specs.Texts.{origin_text}
 use Rattle.renderer_rules.specs.Page.{text_bytes, text_of}
@@ -40,13 +40,20 @@ over_join limit out at (b ∷ s) t =
     ap (λ (n : ℕ). written_over limit (written_over limit (cond (ltb at limit) (set out at b) out) (at + 1) s) n t) (sym (same_place at (length s)))
     ∙ over_join limit (cond (ltb at limit) (set out at b) out) (at + 1) s t
 
-pub emit_in : (limit : ℕ) (out : List ℕ) (at b : ℕ) → at < limit → set out at b ≡ written_over limit out at (b ∷ [])
+emit_in : (limit : ℕ) (out : List ℕ) (at b : ℕ) → at < limit → set out at b ≡ written_over limit out at (b ∷ [])
 unfolding written_over
 emit_in limit out at b h = sym (rw (lt-ltb at limit h))
 
-pub emit_past : (limit : ℕ) (out : List ℕ) (at b : ℕ) → limit ≤ at → out ≡ written_over limit out at (b ∷ [])
+emit_past : (limit : ℕ) (out : List ℕ) (at b : ℕ) → limit ≤ at → out ≡ written_over limit out at (b ∷ [])
 unfolding written_over
 emit_past limit out at b h = sym (rw (le-ltb at limit h))
+
+pub emitted : (out : List ℕ) (at b : ℕ) → set out at b ≡ written_over (length out) out at (b ∷ [])
+emitted out at b = go (ltb at (length out)) refl
+  where
+    go : (t : Bool) → ltb at (length out) ≡ t → set out at b ≡ written_over (length out) out at (b ∷ [])
+    go true l = emit_in (length out) out at b (ltb-true at (length out) l)
+    go false l = set_out out at b (ltb-false at (length out) l) ∙ emit_past (length out) out at b (ltb-false at (length out) l)
 
 -- past the limit nothing is written
 pub over_past : (limit : ℕ) (out : List ℕ) (at : ℕ) (t : List ℕ) → limit ≤ at → written_over limit out at t ≡ out
@@ -54,7 +61,8 @@ unfolding written_over
 over_past limit out at [] h = refl
 over_past limit out at (b ∷ t) h = rw (le-ltb at limit h) (over_past limit out (at + 1) t (omega arith))
 
-over_in : (limit : ℕ) (out : List ℕ) (at b : ℕ) (t : List ℕ) → at < limit → written_over limit out at (b ∷ t) ≡ written_over limit (set out at b) (at + 1) t
+over_in : (limit : ℕ) (out : List ℕ) (at b : ℕ) (t : List ℕ) → at < limit
+    → written_over limit out at (b ∷ t) ≡ written_over limit (set out at b) (at + 1) t
 unfolding written_over
 over_in limit out at b t h = rw (lt-ltb at limit h)
 
@@ -80,7 +88,8 @@ over_sets out at (b ∷ t) limit h =
     ∙ over_sets (set out at b) (suc at) t limit (omega arith)
 
 -- the part of a text that has room is written at once
-pub part_written : (out : List ℕ) (at : ℕ) (t part : List ℕ) (room : ℕ) → at < length out → room ≡ min (length t) (length out - at) → part ≡ take room t
+pub part_written : (out : List ℕ) (at : ℕ) (t part : List ℕ) (room : ℕ) → at < length out → room ≡ min (length t) (length out - at)
+    → part ≡ take room t
     → put_mid at (at + room - at) out part ≡ written_over (length out) out at t
 part_written out at t part room h e f =
     let l = length-take room t in

@@ -7,17 +7,18 @@ use Rattle.renderer_rules.specs.Limits.{START_MARGIN, MAX_COLUMN}
 use Rattle.renderer.specs.Limits.{MAX_MARGIN, BEFORE_ROW}
 use Rattle.rows.specs.View.{view_of, cell, nodes_at}
 use Rattle.rows.specs.Nesting.{Nested}
+use Rattle.rows.specs.Node.{widths, byte_columns}
 use Rattle.renderer_rules.specs.declared.Frame.{Frame}
 use Rattle.renderer_rules.specs.declared.Pen.{Pen}
-use Rattle.renderer_rules.specs.Renderer.{Renderer, fresh_renderer, with_buf, with_widest, group_wraps, trailing_call, callee_wraps, indent_less, next_indent_more, next_indent_less}
+use Rattle.renderer_rules.specs.Renderer.{Renderer, fresh_renderer, with_buf, with_widest, render_nodes}
+use Rattle.renderer_rules.specs.Renderer.{virtual_column, group_wraps, trailing_call, callee_wraps, indent_less, next_indent_more, next_indent_less}
 use Rattle.renderer_rules.specs.Page.{page_of}
 use Rattle.renderer_rules.specs.Frames.{part_limit, At}
-use Rattle.renderer_rules.specs.Machine.{Machine, frame_of}
+use Rattle.renderer_rules.specs.Machine.{Machine, frame_of, turn}
 use Rattle.renderer_rules.specs.Safe.{Safe, SmallTexts}
 use Rattle.renderer.specs.declared.writing.Writing.{Writing}
-use Rattle.renderer.specs.declared.run.Run.{Run}
-use Rattle.renderer.specs.declared.frames.Frames.{Frames}
-use Rattle.renderer.specs.declared.run.Bounds.{Bounds}
+use Rattle.renderer.specs.declared.run.Renderer.{Renderer as Held}
+use Rattle.rows.specs.declared.texts.Rows.{Rows}
 use Rattle.renderer.specs.Output.{written_over}
 use Rattle.renderer.specs.Writing.{set_pen}
 
@@ -28,8 +29,9 @@ pub record Running : Type 0 where
   pub next : ℕ
   pub writing : Writing
 
-abbrev pub with_frames : Frames → Run → Running
-with_frames fs r = record { frames = fs.items; depth = fs.depth; next = r.next; writing = r.writing }
+-- that of the code's `Renderer`
+abbrev pub run_of : Held → Running
+run_of r = record { frames = r.frames.items; depth = r.frames.depth; next = r.next; writing = r.writing }
 
 -- the renderer that has written b so far
 abbrev pub state_of : Writing → List ℕ → List ℕ → Renderer
@@ -91,13 +93,37 @@ pub record Entering (store source image : List ℕ) (max limit stop : ℕ) (mark
   pub ready : Ready store source image max limit stop marks out r
   pub inside : r.next < part_limit (view_of store) stop r.frames r.depth
 
--- a run that takes a turn: it is ready, and not done yet
-pub record Turning (store source image : List ℕ) (limit : ℕ) (bounds : Bounds) (marks out : List ℕ) (r : Running) : Type 0 where
-  pub ready : Ready store source image bounds.max.0 limit bounds.stop marks out r
-  pub more : r.depth ≡ 0 → r.next < bounds.stop
+-- what a step of the code's `Renderer` leaves: the width, and which marks and which output are lent
+pub record Lent (r q : Held) : Type 0 where
+  pub max : q.max ≡ r.max
+  pub marks : q.marks.ghost_name ≡ r.marks.ghost_name
+  pub out : q.out.ghost_name ≡ r.out.ghost_name
+
+-- a step that writes nothing, and one that marks nothing either
+pub record Unwritten (r q : Held) : Type 0 where
+  pub lent : Lent r q
+  pub out : q.out.now ≡ r.out.now
+
+pub record Unmarked (r q : Held) : Type 0 where
+  pub unwritten : Unwritten r q
+  pub marks : q.marks.now ≡ r.marks.now
+
+-- a step that turns the machine by f
+pub record Turns (f : Machine → Machine) (r q : Held) : Type 0 where
+  pub follows : Follows (length r.out.now) f r.marks.now r.out.now (run_of r) q.marks.now q.out.now (run_of q)
+  pub lent : Lent r q
+
+-- the renderer takes a turn: it is ready, and not done yet
+pub record Turning (rows : Rows) (r : Held) : Type 0 where
+  pub stop : ℕ
+  pub ready : Ready rows.store.now rows.source.now rows.image.now r.max.0 (length r.out.now) stop r.marks.now r.out.now (run_of r)
+  pub more : r.frames.depth ≡ 0 → r.next < stop
+
+abbrev pub Turned : Rows → Held → Held → Type 0
+Turned rows r q = Turns (turn (view_of rows.store.now) (page_of r.max.0 rows.source.now rows.image.now)) r q
 
 -- a run that opens a row, which reads no text and writes none
-pub record Opening (store : List ℕ) (max : ℕ) (marks : List ℕ) (r : Running) : Type 0 where
+pub record OpensRow (store : List ℕ) (max : ℕ) (marks : List ℕ) (r : Running) : Type 0 where
   pub source : List ℕ
   pub image : List ℕ
   pub out : List ℕ
@@ -197,3 +223,33 @@ pub record Ended (limit : ℕ) (s : Renderer) (out marks2 out2 : List ℕ) (q : 
   pub widest : q.widest.0 ≡ s.widest
   pub marks : marks2 ≡ s.marks
   pub written : out2 ≡ written_over limit out 0 s.buf
+
+-- the renderer has no row open, and may render those up to the stop
+pub record Unstarted (store : List ℕ) (stop : ℕ) (r : Held) : Type 0 where
+  pub starting : Starting store r.next stop r.writing
+  pub none : r.frames.depth ≡ 0
+  pub places : length r.frames.items ≡ MAX_DEPTH
+
+-- the renderer has rendered them
+pub record Rendered (store source image : List ℕ) (stop : ℕ) (r q : Held) : Type 0 where
+  pub ended :
+      Ended (length r.out.now)
+      (render_nodes (page_of r.max.0 source image) (nodes_at (view_of store) r.next stop) true (fresh_renderer r.writing.pen r.marks.now))
+      r.out.now q.marks.now q.out.now q.writing
+  pub lent : Lent r q
+
+-- the pen stands where rows may be measured
+abbrev pub HasMargin : Pen → Type 0
+HasMargin p = (p.indent ≤ MAX_MARGIN) × (p.column.0 < BEFORE_ROW)
+
+-- the column behind rows on one line; whether they wrap as a group; whether those up to `mid` and then up to `to` are a trailing call
+abbrev pub column_behind : List ℕ → Held → ℕ → ℕ → ℕ
+column_behind store r from to = virtual_column r.writing.pen + widths byte_columns r.marks.now (nodes_at (view_of store) from to)
+
+abbrev pub rows_wrap : List ℕ → Held → ℕ → ℕ → Bool
+rows_wrap store r from to = group_wraps (page_of r.max.0 [] []) (nodes_at (view_of store) from to) (fresh_renderer r.writing.pen r.marks.now)
+
+abbrev pub rows_trail : List ℕ → Held → ℕ → ℕ → ℕ → Bool
+rows_trail store r from mid to =
+    trailing_call (page_of r.max.0 [] []) (nodes_at (view_of store) from mid) (nodes_at (view_of store) mid to)
+    (fresh_renderer r.writing.pen r.marks.now)

@@ -2,8 +2,12 @@
 use Rattle.std.specs.Prelude.{ℕ, ◌+◌, ◌≤◌, ◌<◌, max, ◌≡◌, Bool, cond, List, [], ◌∷◌, length, ltb}
 use Rattle.renderer.specs.Limits.{MAX_MARGIN}
 use Rattle.renderer_rules.specs.declared.Pen.{Pen}
-use Rattle.renderer_rules.specs.Renderer.{Renderer, with_column, push_str, margin}
+use Rattle.renderer_rules.specs.Renderer.{Renderer, fresh_renderer, render_node, with_column, push_str, margin}
 use Rattle.renderer.specs.declared.writing.Writing.{Writing}
+use Rattle.renderer.specs.declared.leaf.LeafRow.{LeafRow}
+use Rattle.rows.specs.declared.texts.Rows.{Rows}
+use Rattle.rows.specs.View.{view_of, node_at}
+use Rattle.renderer_rules.specs.Page.{page_of}
 use Rattle.renderer.specs.Output.{written_over}
 
 -- the same with another pen
@@ -26,6 +30,14 @@ writing_after w s = writing s.pen (w.at.0 + length s.buf) (max w.widest.0 s.wide
 pub record Writes (limit : ℕ) (s : Renderer) (out : List ℕ) (w : Writing) (out2 : List ℕ) (q : Writing) : Type 0 where
   pub after : q ≡ writing_after w s
   pub written : out2 ≡ written_over limit out w.at.0 s.buf
+
+-- what a row without parts writes, whatever the width
+abbrev pub WritesLeaf : Rows → LeafRow → List ℕ → Writing → List ℕ → Writing → Type 0
+WritesLeaf rows l out w out2 q =
+    (max : ℕ)
+    → Writes (length out)
+    (render_node (page_of max rows.source.now rows.image.now) (node_at (view_of rows.store.now) l.row) l.wrap (fresh_renderer w.pen []))
+    out w out2 q
 
 -- what `comment` (with true) and `text` write before the text that they are given
 unfoldable pub before_text : Bool → Renderer → Renderer

@@ -3,15 +3,13 @@ ghost use Rattle.std.specs.Prelude.{◌≡◌, ◌+◌, ◌*◌, ◌<◌, length
 ghost use Rattle.rows.specs.Places.{KIND, WIDTH, PLACES};
 ghost use Rattle.rows.specs.View.{view_of, cell};
 ghost use Rattle.renderer_rules.specs.Frames.{part_end};
-ghost use Rattle.renderer.specs.Run.{with_frames, closed_run, closes, Backs, Leaves, Left};
+ghost use Rattle.renderer.specs.Run.{run_of, closed_run, closes, Backs, Leaves, Left, Unmarked, Unwritten};
 
-use crate::frames::Frames;
-use crate::run::Run;
+use crate::run::Renderer;
 use renderer_rules::{Frame, Pen};
 use rows::kinds::Kind;
 use rows::places::{AFTER, SECOND};
 use rows::store::{has_kind, place, row_kind};
-use rows::units::Columns;
 
 // Where the open part of a row ends.
 #[tactic(auto, unfolding(rows::specs::View::view_of, renderer_rules::specs::Frames::part_end))]
@@ -35,33 +33,28 @@ fn take_back(pen: &mut Pen, store: &[u32], f: Frame)
     }
 }
 
-impl Run {
+impl Renderer<'_> {
     // The innermost row is closed, and the row after it is next.
-    fn close(&mut self, frames: &mut Frames, f: Frame, store: &[u32])
-        requires { Leaves store.now (with_frames frames.old self.old) f }
-        ensures { with_frames frames.new self.new ≡ closed_run store.now (with_frames frames.old self.old) f }
+    fn close(&mut self, store: &[u32], f: Frame)
+        requires { Leaves store.now (run_of self.old) f }
+        ensures run { run_of self.new ≡ closed_run store.now (run_of self.old) f }
+        ensures unmarked { Unmarked self.old self.new }
     {
         take_back(&mut self.writing.pen, store, f);
-        frames.pop();
+        self.frames.pop();
         self.next = place(store, f.row as usize, AFTER);
     }
 
     // The open part of the innermost row is done.
-    pub(crate) fn leave(
-        &mut self,
-        frames: &mut Frames,
-        f: Frame,
-        store: &[u32],
-        marks: &mut [u8],
-        max: Columns,
-    )
-        requires { Leaves store.now (with_frames frames.old self.old) f }
-        ensures { Left store.now max.0 marks.old (with_frames frames.old self.old) f marks.new (with_frames frames.new self.new) }
+    pub(crate) fn leave(&mut self, store: &[u32], f: Frame)
+        requires { Leaves store.now (run_of self.old) f }
+        ensures left { Left store.now self.old.max.0 self.old.marks.now (run_of self.old) f self.new.marks.now (run_of self.new) }
+        ensures unwritten { Unwritten self.old self.new }
     {
         if f.first && has_kind(store, f.row as usize, Kind::Call) {
-            self.enter_arguments(frames, f, store, marks, max);
+            self.enter_arguments(store, f);
         } else {
-            self.close(frames, f, store);
+            self.close(store, f);
         }
     }
 }

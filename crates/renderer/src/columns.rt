@@ -1,14 +1,13 @@
 // What fits: the column, and whether rows wrap there.
-// kept: the rows are a store and two numbers, for speed, as in measure.rt.
-ghost use Rattle.std.specs.Prelude.{◌≡◌, ◌+◌, ◌≤◌, ◌<◌, [], ltb};
-ghost use Rattle.rows.specs.Node.{widths, byte_columns};
-ghost use Rattle.renderer.specs.Limits.{MAX_MARGIN, BEFORE_ROW};
-ghost use Rattle.rows.specs.View.{view_of, nodes_at};
+// kept: in each function the rows are a store and two numbers, as in measure.rt.
+ghost use Rattle.std.specs.Prelude.{◌≡◌, ◌≤◌, ltb};
 ghost use Rattle.rows.specs.Nesting.{Nested};
-ghost use Rattle.renderer_rules.specs.Page.{page_of};
-ghost use Rattle.renderer_rules.specs.Renderer.{fresh_renderer, group_wraps, trailing_call, virtual_column};
+ghost use Rattle.renderer_rules.specs.Renderer.{virtual_column};
+ghost use Rattle.renderer.specs.Limits.{MAX_MARGIN};
+ghost use Rattle.renderer.specs.Run.{HasMargin, column_behind, rows_wrap, rows_trail};
 
-use crate::measure::width_past;
+use crate::measure::width_within;
+use crate::run::Renderer;
 use crate::writing::margin_columns;
 use renderer_rules::Pen;
 use rows::units::Columns;
@@ -27,60 +26,51 @@ fn virtual_column(p: Pen) -> Columns
     }
 }
 
-// Whether the rows from `from` up to `to` go past the line's end. Nothing is measured past it.
-pub(crate) fn exceeds(
-    p: Pen,
-    store: &[u32],
-    marks: &[u8],
-    from: usize,
-    to: usize,
-    max: Columns,
-) -> bool
-    requires { Nested store.now from to × ((p.indent ≤ MAX_MARGIN) × (p.column.0 < BEFORE_ROW)) }
-    ensures { result ≡ ltb max.0 (virtual_column p + widths byte_columns marks.now (nodes_at (view_of store.now) from to)) }
-{
-    let start = virtual_column(p);
-    if max.0 < start.0 {
-        return true;
+impl Renderer<'_> {
+    // Whether the rows from `from` up to `to` go past the line's end. Nothing is measured past it.
+    pub(crate) fn exceeds(&self, store: &[u32], from: usize, to: usize) -> bool
+        requires { Nested store.now from to × HasMargin self.now.writing.pen }
+        ensures { result ≡ ltb self.now.max.0 (column_behind store.now self.now from to) }
+    {
+        let start = virtual_column(self.writing.pen);
+        if self.max.0 < start.0 {
+            return true;
+        }
+        let room = Columns(self.max.0 - start.0);
+        width_within(store, self.marks, from, to, room).is_none()
     }
-    let room = Columns(max.0 - start.0);
-    room.0 < width_past(store, marks, from, to, room).0
-}
 
-// Whether the group of the rows from `from` up to `to` wraps.
-#[tactic(auto, unfolding(renderer_rules::specs::Renderer::group_wraps, renderer_rules::specs::Renderer::wraps))]
-pub(crate) fn group_wraps(
-    p: Pen,
-    store: &[u32],
-    marks: &[u8],
-    from: usize,
-    to: usize,
-    max: Columns,
-) -> bool
-    requires { Nested store.now from to × ((p.indent ≤ MAX_MARGIN) × (p.column.0 < BEFORE_ROW)) }
-    ensures { result ≡ group_wraps (page_of max.0 [] []) (nodes_at (view_of store.now) from to) (fresh_renderer p marks.now) }
-{
-    must_wrap(store, from, to) || exceeds(p, store, marks, from, to, max)
-}
-
-// Whether a call keeps its callee's line: the first branch of `Call`. The callee's rows are those up to `mid`, the arguments' up to `to`;
-// `over` says whether they go past the line's end together.
-pub(crate) fn trailing_call(
-    over: bool,
-    p: Pen,
-    store: &[u32],
-    marks: &[u8],
-    from: usize,
-    mid: usize,
-    to: usize,
-    max: Columns,
-) -> bool
-    requires nested { Nested store.now from mid × (Nested store.now mid to × ((p.indent ≤ MAX_MARGIN) × (p.column.0 < BEFORE_ROW))) }
-    requires over_value { over ≡ ltb max.0 (virtual_column p + widths byte_columns marks.now (nodes_at (view_of store.now) from to)) }
-    ensures { result ≡ trailing_call (page_of max.0 [] []) (nodes_at (view_of store.now) from mid) (nodes_at (view_of store.now) mid to) (fresh_renderer p marks.now) }
-{
-    if !over || must_wrap(store, from, mid) || must_wrap(store, mid, to) {
-        return false;
+    // Whether the group of the rows from `from` up to `to` wraps.
+    #[tactic(auto, unfolding(renderer_rules::specs::Renderer::group_wraps, renderer_rules::specs::Renderer::wraps))]
+    pub(crate) fn group_wraps(&self, store: &[u32], from: usize, to: usize) -> bool
+        requires { Nested store.now from to × HasMargin self.now.writing.pen }
+        ensures { result ≡ rows_wrap store.now self.now from to }
+    {
+        must_wrap(store, from, to) || self.exceeds(store, from, to)
     }
-    virtual_column(p).0 + width_past(store, marks, from, mid, max).0 + 1 < max.0
+
+    // Whether a call keeps its callee's line: the first branch of `Call`. The callee's rows are those up to `mid`, the arguments' up to `to`;
+    // `over` says whether they go past the line's end together.
+    pub(crate) fn trailing_call(
+        &self,
+        store: &[u32],
+        over: bool,
+        from: usize,
+        mid: usize,
+        to: usize,
+    ) -> bool
+        requires callee { Nested store.now from mid }
+        requires arguments { Nested store.now mid to }
+        requires margin { HasMargin self.now.writing.pen }
+        requires over_value { over ≡ ltb self.now.max.0 (column_behind store.now self.now from to) }
+        ensures { result ≡ rows_trail store.now self.now from mid to }
+    {
+        if !over || must_wrap(store, from, mid) || must_wrap(store, mid, to) {
+            return false;
+        }
+        match width_within(store, self.marks, from, mid, self.max) {
+            Some(w) => virtual_column(self.writing.pen).0 + w.0 + 1 < self.max.0,
+            None => false,
+        }
+    }
 }

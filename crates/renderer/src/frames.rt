@@ -24,7 +24,8 @@ const NONE: Frame = Frame {
 };
 
 // The open rows, the outermost first, and how many they are.
-// kept: not `rows::stack::Stack`, since no struct holds an array of a type parameter; and its fields are seen, as the machine of the rules has them.
+// kept: not the kit's `ArrayVec`, which tells of the open rows alone: the machine of the rules has the closed ones behind them in its list,
+// so that each promise would be of every such list.
 #[derive(Drop)]
 pub struct Frames {
     pub items: [Frame; MAX_DEPTH],

@@ -1,37 +1,30 @@
 // The width of rows, as far as a line has room for them.
-// kept: the rows are a store and two numbers. As one struct, lent or by value, they make rendering of rows that are all flat 7 parts in a
-// hundred slower, since more of what the loop over rows has lives in memory then.
-ghost use Rattle.std.specs.Prelude.{◌≡◌, ◌+◌, ◌<◌, min};
-ghost use Rattle.renderer.specs.Limits.{MEASURED_LIMIT};
-ghost use Rattle.renderer.specs.Measure.{Measures, Stopped, IsWrapped};
+// kept: the rows are a store and two numbers, as `must_wrap` and `Nested` of rows have them. A struct would be made for each call, as
+// `Range { store, from: row + 1, to: end }`, and taken apart at once.
+ghost use Rattle.renderer.specs.Measure.{MeasuresWithin, Within, Stopped, IsWrapped};
 ghost use Rattle.rows.specs.Node.{widths, byte_columns};
 ghost use Rattle.rows.specs.View.{view_of, nodes_at};
 ghost use Rattle.rows.specs.Nesting.{Nested};
 
+use arrayvec::ArrayVec;
 use rows::kinds::Kind;
 use rows::limits::MAX_DEPTH;
 use rows::places::{AFTER, NUMBER, SECOND};
-use rows::stack::Stack;
 use rows::store::{has_kind, place};
 use rows::units::Columns;
 use rows::width::own_width;
 use rows::wrap::is_wrapped;
 
 // What stopped a sum of widths.
-// kept: neither end is a failure of the other, so that a Result would say less.
+// kept: each end is an answer and none is a failure, so that a `Result` would mislead.
 #[derive(Clone, Copy, Debug, PartialEq, Eq)]
 enum Measured {
-    // the range's end, or the room's: the width, or one column more than there is room for
+    // the range's end: the width
     Width(Columns),
+    // the room's end
+    Past,
     // an `IfWrap` that has wrapped: its row, and the width before it
     Wrapped(usize, Columns),
-}
-
-// A width that is past the room is one column past it.
-fn clip(w: Columns, room: Columns) -> Columns
-    ensures { result.0 ≡ min (room.0 + 1) w.0 }
-{
-    if room.0 < w.0 { Columns(room.0 + 1) } else { w }
 }
 
 // The width of the rows from `from` up to the first `IfWrap` that has wrapped, or up to `to`. No row is read once the room is passed.
@@ -44,7 +37,7 @@ fn until_wrapped(store: &[u32], marks: &[u8], from: usize, to: usize, room: Colu
     let mut sum = Columns(0);
     while row < to {
         if room.0 < sum.0 {
-            return Measured::Width(Columns(room.0 + 1));
+            return Measured::Past;
         }
         if has_kind(store, row, Kind::IfWrap) {
             if is_wrapped(marks, place(store, row, NUMBER)) {
@@ -56,17 +49,26 @@ fn until_wrapped(store: &[u32], marks: &[u8], from: usize, to: usize, room: Colu
             row += 1;
         }
     }
-    Measured::Width(clip(sum, room))
+    if room.0 < sum.0 {
+        return Measured::Past;
+    }
+    Measured::Width(sum)
 }
 
-// The same from an `IfWrap` on that has wrapped. Inside its first part, `end` is where that part ends, and `ends` has what `end` was
-// outside it.
+// The same from an `IfWrap` on that has wrapped, if there is room. Inside its first part, `end` is where that part ends, and `ends` has what
+// `end` was outside it.
 // kept: the next row is one on or behind a part, so that no range has the rows.
-fn wrapped_width(store: &[u32], marks: &[u8], from: usize, to: usize, room: Columns) -> Columns
+fn wrapped_width(
+    store: &[u32],
+    marks: &[u8],
+    from: usize,
+    to: usize,
+    room: Columns,
+) -> Option<Columns>
     requires { Nested store.now from to × IsWrapped store.now marks.now from }
-    ensures { Measures store.now marks.now from to room.0 result.0 }
+    ensures { MeasuresWithin store.now marks.now from to room.0 result }
 {
-    let mut ends: Stack<MAX_DEPTH> = Stack::new();
+    let mut ends: ArrayVec<u32, MAX_DEPTH> = ArrayVec::new();
     let mut row = from;
     let mut end = to;
     let mut sum = Columns(0);
@@ -85,33 +87,33 @@ fn wrapped_width(store: &[u32], marks: &[u8], from: usize, to: usize, room: Colu
                 sum = sum + w;
             }
             Measured::Width(w) => {
-                if room.0 - sum.0 < w.0 {
-                    return Columns(room.0 + 1);
-                }
                 row = end;
                 sum = sum + w;
             }
+            Measured::Past => return None,
         }
     }
-    sum
+    Some(sum)
 }
 
-// The width of the rows from `from` up to `to`, or one column more than there is room for. Most rows have no `IfWrap` that has wrapped,
-// and are measured in less time than it takes to clear an array: so `wrapped_width` is asked only where there is one.
-pub(crate) fn width_past(
+// The width of the rows from `from` up to `to`, if there is room. Most rows have no `IfWrap` that has wrapped, and are measured in less time
+// than it takes to clear an array: so `wrapped_width` is asked only where there is one.
+pub(crate) fn width_within(
     store: &[u32],
     marks: &[u8],
     from: usize,
     to: usize,
     room: Columns,
-) -> Columns
+) -> Option<Columns>
     requires { Nested store.now from to }
-    ensures { (result.0 ≡ min (room.0 + 1) (widths byte_columns marks.now (nodes_at (view_of store.now) from to))) × (result.0 < MEASURED_LIMIT) }
+    ensures { Within (widths byte_columns marks.now (nodes_at (view_of store.now) from to)) room.0 result }
 {
     match until_wrapped(store, marks, from, to, room) {
-        Measured::Width(w) => w,
+        Measured::Width(w) => Some(w),
+        Measured::Past => None,
         Measured::Wrapped(row, w) => {
-            w + wrapped_width(store, marks, row, to, Columns(room.0 - w.0))
+            let rest = wrapped_width(store, marks, row, to, Columns(room.0 - w.0))?;
+            Some(w + rest)
         }
     }
 }

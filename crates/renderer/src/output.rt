@@ -2,13 +2,13 @@
 ghost use Rattle.std.specs.Prelude.{◌≡◌, [], ◌∷◌, length, replicate};
 ghost use Rattle.renderer.specs.Output.{written_over};
 
+use rows::store::put;
+
 // Writes a byte.
 pub(crate) fn emit(out: &mut [u8], at: usize, b: u8)
     ensures { out.new ≡ written_over (length out.old) out.old at (b ∷ []) }
 {
-    if at < out.len() {
-        out[at] = b;
-    }
+    put(out, at, b);
 }
 
 // Writes n blanks.
@@ -22,6 +22,7 @@ pub(crate) fn spaces(out: &mut [u8], at: usize, n: usize)
 }
 
 // Writes a text.
+// kept: writer's `set_all` is its twin, and no crate with code is below both.
 pub(crate) fn copy(out: &mut [u8], at: usize, text: &[u8])
     ensures { out.new ≡ written_over (length out.old) out.old at text.now }
 {

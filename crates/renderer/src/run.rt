@@ -1,12 +1,17 @@
-// The state of a rendering loop, and what it is given.
+// `Renderer` of fmt.rs over rows, and what it is given.
+use crate::frames::Frames;
 use crate::writing::Writing;
 use rows::units::Columns;
 
-// The next row, and the text so far. The open rows are lent beside it.
-#[derive(Clone, Copy, Debug, PartialEq, Eq)]
-pub struct Run {
-    pub next: usize,
+// What a rendering changes: the marks of groups that have wrapped, the output, the text so far, the open rows and the next row.
+#[derive(Drop)]
+pub struct Renderer<'a> {
+    pub marks: &'a mut [u8],
+    pub out: &'a mut [u8],
+    pub max: Columns,
     pub writing: Writing,
+    pub frames: Frames,
+    pub next: usize,
 }
 
 // `max` of fmt.rs, in columns; the row to stop before.

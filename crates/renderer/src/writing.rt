@@ -1,18 +1,17 @@
-// A text that is being written, and what `Renderer` of fmt.rs does to it: `new_line`, and the parts of `comment` and `text`.
-ghost use Rattle.std.specs.Prelude.{◌≡◌, ◌+◌, ◌*◌, ◌≤◌, ◌<◌, [], ◌∷◌, length};
+// A text that is being written, and what `Renderer` of fmt.rs does to it: `new_line`, `comment` and `text`.
+ghost use Rattle.std.specs.Prelude.{◌≡◌, ◌+◌, ◌*◌, ◌≤◌, ◌<◌, true, false, [], ◌∷◌, length};
 ghost use Rattle.rows.specs.Limits.{CELL_LIMIT};
 ghost use Rattle.renderer.specs.Limits.{MAX_MARGIN, BEFORE_ROW, IN_ROW};
-ghost use Rattle.renderer_rules.specs.Renderer.{fresh_renderer, push_str, at_column, new_line, margin, text};
-ghost use Rattle.renderer.specs.Output.{written_over};
+ghost use Rattle.renderer_rules.specs.Renderer.{fresh_renderer, push_str, new_line, margin, comment, text};
 ghost use Rattle.renderer.specs.Writing.{moved_to, before_text, Writes, WritingRoom};
 
-use crate::output::{emit, spaces};
+use crate::output::{copy, emit, spaces};
 use renderer_rules::Pen;
 use rows::units::{Bytes, Columns};
 
 // A text that is being written: the pen, how many bytes are written, and the greatest value that `column` was set to.
-// kept: each method asks for the room that it needs. It is what the rows ahead leave, which only the loop over rows knows, and no value of the
-// type has it for good, so that no invariant says it.
+// kept: each method has its own `requires` of room and `Writing` no invariant: how much room is left depends on the rows to come, which only
+// the loop over rows knows.
 #[derive(Clone, Copy, Debug, PartialEq, Eq)]
 pub struct Writing {
     pub pen: Pen,
@@ -37,15 +36,6 @@ impl Writing {
     {
         emit(out, self.at.0, b);
         self.at.0 += 1;
-    }
-
-    // Writes a blank of one column.
-    fn push_blank(&mut self, out: &mut [u8])
-        requires { WritingRoom IN_ROW (length out.old) out.old self.old }
-        ensures { Writes (length out.old) (at_column (self.old.pen.column.0 + 1) (push_str (0x20 ∷ []) (fresh_renderer self.old.pen []))) out.old self.old out.new self.new }
-    {
-        emit(out, self.at.0, b' ');
-        self.move_to(self.pen.column + Columns(1), self.at + Bytes(1));
     }
 
     // The indent of a line that starts here.
@@ -78,43 +68,50 @@ impl Writing {
         self.new_line(out);
     }
 
-    // What `text` and `comment` write before a text: the indent of a line that starts here, else a blank before a comment.
-    pub(crate) fn begin_text(&mut self, out: &mut [u8], comment: bool)
+    // What `text` writes before a text: the indent of a line that starts here.
+    fn start_text(&mut self, out: &mut [u8])
         requires { WritingRoom BEFORE_ROW (length out.old) out.old self.old }
-        ensures { Writes (length out.old) (before_text comment (fresh_renderer self.old.pen [])) out.old self.old out.new self.new }
+        ensures { Writes (length out.old) (before_text false (fresh_renderer self.old.pen [])) out.old self.old out.new self.new }
     {
         if self.pen.column.0 == 0 {
             self.start_line(out);
-        } else if comment {
+        }
+    }
+
+    // What `comment` writes before one: the same, or a blank.
+    fn start_comment(&mut self, out: &mut [u8])
+        requires { WritingRoom BEFORE_ROW (length out.old) out.old self.old }
+        ensures { Writes (length out.old) (before_text true (fresh_renderer self.old.pen [])) out.old self.old out.new self.new }
+    {
+        if self.pen.column.0 == 0 {
+            self.start_line(out);
+        } else {
             self.push(out, b' ');
         }
     }
 
-    // The end of a text of `size` bytes, `width` columns wide.
-    pub(crate) fn end_text(&mut self, size: Bytes, width: Columns)
-        requires { (self.old.at.0 < IN_ROW) × ((self.old.pen.column.0 < IN_ROW) × ((size.0 < CELL_LIMIT) × (width.0 < CELL_LIMIT))) }
-        ensures { self.new ≡ moved_to (self.old.pen.column.0 + width.0) (self.old.at.0 + size.0) self.old }
+    // `text`, of bytes, as the texts of rows are.
+    pub(crate) fn text(&mut self, out: &mut [u8], s: &[u8], size: Columns)
+        requires room { WritingRoom BEFORE_ROW (length out.old) out.old self.old }
+        requires small { (length s.now < CELL_LIMIT) × (size.0 < CELL_LIMIT) }
+        ensures { Writes (length out.old) (text s.now size.0 (fresh_renderer self.old.pen [])) out.old self.old out.new self.new }
     {
-        self.move_to(self.pen.column + width, self.at + size);
+        self.start_text(out);
+        copy(out, self.at.0, s);
+        self.move_to(self.pen.column + size, self.at + Bytes(s.len()));
     }
 
-    // The end of a comment of `size` bytes, and of its line.
-    pub(crate) fn end_comment(&mut self, out: &mut [u8], size: Bytes)
-        requires { (self.old.at.0 < IN_ROW) × (size.0 < CELL_LIMIT) }
-        ensures { (self.new ≡ moved_to 0 (self.old.at.0 + size.0 + 1) self.old) × (out.new ≡ written_over (length out.old) out.old (self.old.at.0 + size.0) (0x0A ∷ [])) }
+    // `comment`
+    pub(crate) fn comment(&mut self, out: &mut [u8], s: &[u8])
+        requires room { WritingRoom BEFORE_ROW (length out.old) out.old self.old }
+        requires small { length s.now < CELL_LIMIT }
+        ensures { Writes (length out.old) (comment s.now (fresh_renderer self.old.pen [])) out.old self.old out.new self.new }
     {
-        let at = self.at + size;
+        self.start_comment(out);
+        copy(out, self.at.0, s);
+        let at = self.at + Bytes(s.len());
         emit(out, at.0, b'\n');
         self.move_to(Columns(0), at + Bytes(1));
-    }
-
-    // The blank of a `LineOrSpace`: `text(" ", 1)`.
-    pub(crate) fn space(&mut self, out: &mut [u8])
-        requires { WritingRoom BEFORE_ROW (length out.old) out.old self.old }
-        ensures { Writes (length out.old) (text (0x20 ∷ []) 1 (fresh_renderer self.old.pen [])) out.old self.old out.new self.new }
-    {
-        self.begin_text(out, false);
-        self.push_blank(out);
     }
 }
 

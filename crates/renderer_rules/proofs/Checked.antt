@@ -158,7 +158,8 @@ sound_step places v end d i true true r t p q e l f g =
 sound_step places v end d i true false r t p q e l f g = absurd (never i e)
 sound_step places v end d i false b r t p q e l f g = over {i = i} {j = end} (let h = ltb-false i end p in omega arith)
 
-sound : (f : ℕ) (places : ℕ → Bool) (v : View) (end d i : ℕ) → first_wrong f places v end d i ≡ None → i ≤ end → end - i ≤ f → Nests v i end d
+sound : (f : ℕ) (places : ℕ → Bool) (v : View) (end d i : ℕ) → first_wrong f places v end d i ≡ None → i ≤ end → end - i ≤ f
+    → Nests v i end d
 unfolding first_wrong
 sound zero places v end d i e l h = over {i = i} {j = end} (omega arith)
 sound (suc f) places v end d i e l h =

@@ -118,7 +118,8 @@ module _ (v : View) (pg : Page) (stop : ℕ) where
   unfolding render_nodes
   single i h w s = rw (nodes_some v i (v.after i) h, nodes_none v (v.after i) (v.after i) (omega arith))
 
-  pub open_if_first : (fs : List Frame) (d i : ℕ) (s : Renderer) → d < length fs → RangeIn v i (part_limit v stop fs d) → v.kind i ≡ IF_WRAP → TwoParts v i
+  pub open_if_first : (fs : List Frame) (d i : ℕ) (s : Renderer) → d < length fs → RangeIn v i (part_limit v stop fs d) → v.kind i ≡ IF_WRAP
+      → TwoParts v i
       → wrapped s.marks (v.number i) ≡ true
       → meaning (set fs d (frame_of i (wrap_at fs d) true false)) (suc d) (suc i) s ≡ meaning fs d i s
   unfolding closing part_end render_node
@@ -127,7 +128,8 @@ module _ (v : View) (pg : Page) (stop : ℕ) where
       (rw (node_if v i k (record { up = omega arith; to = omega arith }), k, m)
       (rw (← t.first) (single (suc i) (record { up = omega arith; to = omega arith }) (wrap_at fs d) s)))
 
-  pub open_if_second : (fs : List Frame) (d i : ℕ) (s : Renderer) → d < length fs → RangeIn v i (part_limit v stop fs d) → v.kind i ≡ IF_WRAP → TwoParts v i
+  pub open_if_second : (fs : List Frame) (d i : ℕ) (s : Renderer) → d < length fs → RangeIn v i (part_limit v stop fs d)
+      → v.kind i ≡ IF_WRAP → TwoParts v i
       → wrapped s.marks (v.number i) ≡ false
       → meaning (set fs d (frame_of i (wrap_at fs d) false false)) (suc d) (v.second i) s ≡ meaning fs d i s
   unfolding closing part_end render_node
@@ -136,7 +138,8 @@ module _ (v : View) (pg : Page) (stop : ℕ) where
       (rw (node_if v i k (record { up = omega arith; to = omega arith }), k, m)
       (rw (← t.second) (single (v.second i) (record { up = omega arith; to = omega arith }) (wrap_at fs d) s)))
 
-  pub open_call : (fs : List Frame) (d i : ℕ) (s : Renderer) (t b : Bool) → d < length fs → RangeIn v i (part_limit v stop fs d) → v.kind i ≡ CALL → Split v i
+  pub open_call : (fs : List Frame) (d i : ℕ) (s : Renderer) (t b : Bool) → d < length fs → RangeIn v i (part_limit v stop fs d)
+      → v.kind i ≡ CALL → Split v i
       → t ≡ trailing_call pg (nodes_at v (suc i) (v.second i)) (nodes_at v (v.second i) (v.after i)) s
       → b ≡ callee_wraps pg t (nodes_at v (suc i) (v.second i)) (nodes_at v (v.second i) (v.after i)) s
       → meaning (set fs d (frame_of i b true (not t && b))) (suc d) (suc i) (on_pen (next_indent_more (not t && b)) (insert b (v.number i) s))
@@ -147,7 +150,8 @@ module _ (v : View) (pg : Page) (stop : ℕ) where
       (rw (node_call v i k p, k, q, e))
 
   -- the callee is done: the arguments' group is opened
-  pub call_on : (fs : List Frame) (d i : ℕ) (s : Renderer) (c : Bool) → d < length fs → v.kind (frame_at fs d).row ≡ CALL → (frame_at fs d).first ≡ true
+  pub call_on : (fs : List Frame) (d i : ℕ) (s : Renderer) (c : Bool) → d < length fs → v.kind (frame_at fs d).row ≡ CALL
+      → (frame_at fs d).first ≡ true
       → i ≡ v.second (frame_at fs d).row
       → c ≡ group_wraps pg (nodes_at v i (v.after (frame_at fs d).row)) s
       → meaning (set fs d (frame_of (frame_at fs d).row c false (frame_at fs d).deeper)) (suc d) i (insert c (v.number2 (frame_at fs d).row) s)

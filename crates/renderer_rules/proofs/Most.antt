@@ -213,7 +213,8 @@ next_out_adds true s = go (ltb 0 s.pen.next_indent)
     go false = out_adds true s
 next_out_adds false s = record { most = omega arith }
 
-push_sum : (t : List ℕ) (m : ℕ) (s : Renderer) → s.pen.indent + s.pen.next_indent ≤ m → (push_str t s).pen.indent + (push_str t s).pen.next_indent ≤ m
+push_sum : (t : List ℕ) (m : ℕ) (s : Renderer) → s.pen.indent + s.pen.next_indent ≤ m
+    → (push_str t s).pen.indent + (push_str t s).pen.next_indent ≤ m
 unfolding push_str
 push_sum t m s h = h
 

@@ -61,7 +61,8 @@ module _ (q : ℕ → Bool) where
   Within n = (x : ℕ) → q x ≡ false → names x n ≡ false
 
   -- what keeps the marks keeps renderers alike
-  keeps : (f : Renderer → Renderer) → ((m : List ℕ) (s : Renderer) → f (with_marks m s) ≡ with_marks m (f s)) → (s t : Renderer) → Alike s t → Alike (f s) (f t)
+  keeps : (f : Renderer → Renderer) → ((m : List ℕ) (s : Renderer) → f (with_marks m s) ≡ with_marks m (f s)) → (s t : Renderer)
+      → Alike s t → Alike (f s) (f t)
   keeps f k s t a =
       let e : f t ≡ with_marks t.marks (f s) = ap f a.rest ∙ k t.marks s in
       let l : t.marks ≡ (f t).marks = sym (ap (λ (r : Renderer). r.marks) e) in

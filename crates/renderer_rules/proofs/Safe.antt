@@ -58,7 +58,8 @@ ins_le v fs zero = omega arith
 ins_le v fs (suc d) = let a = ins_le v fs d in let b = in_le v (frame_at fs d) in omega arith
 
 -- what the end of a row does, by its kind
-pub closing_plain : (v : View) (pg : Page) (f : Frame) (s : Renderer) (k : ℕ) → v.kind f.row ≡ k → (k ≡ 1 → ⊥) → (k ≡ 2 → ⊥) → (k ≡ 11 → ⊥)
+pub closing_plain : (v : View) (pg : Page) (f : Frame) (s : Renderer) (k : ℕ) → v.kind f.row ≡ k → (k ≡ 1 → ⊥) → (k ≡ 2 → ⊥)
+    → (k ≡ 11 → ⊥)
     → closing v pg f s ≡ s
 unfolding closing
 closing_plain v pg f s zero e a b c = rw e
@@ -79,7 +80,8 @@ pub closing_indent : (v : View) (pg : Page) (f : Frame) (s : Renderer) → v.kin
 unfolding closing
 closing_indent v pg f s k = rw k
 
-pub closing_next : (v : View) (pg : Page) (f : Frame) (s : Renderer) → v.kind f.row ≡ INDENT_NEXT → closing v pg f s ≡ on_pen (next_indent_less f.wrap) s
+pub closing_next : (v : View) (pg : Page) (f : Frame) (s : Renderer) → v.kind f.row ≡ INDENT_NEXT
+    → closing v pg f s ≡ on_pen (next_indent_less f.wrap) s
 unfolding closing
 closing_next v pg f s k = rw k
 
@@ -88,7 +90,8 @@ pub closing_call : (v : View) (pg : Page) (f : Frame) (s : Renderer) → v.kind 
 unfolding closing
 closing_call v pg f s k e = rw (k, e)
 
-plain_step : (v : View) (f : Frame) → (v.kind f.row ≡ INDENT → ⊥) → (v.kind f.row ≡ INDENT_NEXT → ⊥) → (v.kind f.row ≡ CALL → ⊥) → steps_back v f ≡ 0
+plain_step : (v : View) (f : Frame) → (v.kind f.row ≡ INDENT → ⊥) → (v.kind f.row ≡ INDENT_NEXT → ⊥)
+    → (v.kind f.row ≡ CALL → ⊥) → steps_back v f ≡ 0
 unfolding steps_back
 plain_step v f a b c = rw (ne_eqb (v.kind f.row) INDENT a, ne_eqb (v.kind f.row) INDENT_NEXT b, ne_eqb (v.kind f.row) CALL c)
 
@@ -584,7 +587,8 @@ module _ (v : View) (pg : Page) (stop : ℕ) where
           go true q = on_safe c (eqb-true _ 11 (both (eqb (v.kind (frame_at m.frames k).row) CALL) (frame_at m.frames k).first q).0)
           go false q = off_safe _ _ _ refl refl refl q
 
-  turn_safe_at : (base d : ℕ) (m : Machine) → m.depth ≡ d → Fine v pg stop m → is_done v pg stop m ≡ false → SmallTexts v pg → base ≤ 128 → Safe v base m
+  turn_safe_at : (base d : ℕ) (m : Machine) → m.depth ≡ d → Fine v pg stop m → is_done v pg stop m ≡ false → SmallTexts v pg
+      → base ≤ 128 → Safe v base m
       → Safe v base (turn_at v pg d m)
   unfolding turn_at
   turn_safe_at base zero m e a n z y s = enter_safe base m a (not_done v pg stop m a n (omega arith)) s z y (v.kind m.next) refl

@@ -13,4 +13,5 @@ call_of_rust p n e k a wrap r =
 -- the rule for `Call` is the Rust's
 abbrev pub CallAsRust : Type 0
 CallAsRust =
-    (p : Page) (n : ℕ) (e : Nodes) (k : ℕ) (a : Nodes) (wrap : Bool) (r : Renderer) → render_node p (call n e k a) wrap r ≡ call_of_rust p n e k a wrap r
+    (p : Page) (n : ℕ) (e : Nodes) (k : ℕ) (a : Nodes) (wrap : Bool) (r : Renderer)
+    → render_node p (call n e k a) wrap r ≡ call_of_rust p n e k a wrap r

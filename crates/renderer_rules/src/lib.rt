@@ -7,13 +7,14 @@ ghost use Rattle.renderer_rules.specs.Renderer.{indent_more, indent_less, next_i
 use rows::units::Columns;
 
 // `indent`, `next_indent` and `column` of `Renderer`: what is carried from one call to the next.
-#[derive(Clone, Copy, Debug, PartialEq, Eq)]
+#[derive(Clone, Copy, Debug, Default, PartialEq, Eq)]
 pub struct Pen {
     pub indent: usize,
     pub next_indent: usize,
     pub column: Columns,
 }
 
+// kept: each method with `wrap` is an `if wrap { .. }` of the Rust, which would else stand at each of the six calls.
 impl Pen {
     // Goes to a new line.
     pub fn break_line(&mut self)

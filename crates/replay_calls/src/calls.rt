@@ -6,19 +6,13 @@ use layout_call::{LayoutArgs, LayoutState, layout_call};
 use refusals::Refused;
 use render_call::{RenderArgs, RenderState, render_call};
 use rows::units::Columns;
-use stored_answers::difference::{Difference, unless};
+use stored_answers::difference::{Difference, Told, unless};
 use stored_answers::numbers::{Reader, past};
+use stored_answers::parts::Parts;
 use stored_answers::report::{count, number_of};
 
 // How many answers a call can have: accepted, or a number up to 15. Those of rendering calls are counted behind those of layout calls.
 pub(crate) const ANSWERS: usize = 16;
-
-// A file's source and image.
-#[derive(Clone, Copy)]
-pub(crate) struct Parts<'a> {
-    pub source: &'a [u8],
-    pub image: &'a [u8],
-}
 
 // The states that the calls so far left, the bytes that they wrote, and the first difference.
 #[derive(Clone, Copy)]
@@ -42,52 +36,44 @@ pub(crate) struct World<'f, 's, 'm, 't, 'c> {
 }
 
 // What is stored of a call's answer: number and place, and where it is accepted the state and the comments left or the bytes written.
+// kept: a number beside an Option, and no Result: of an accepted answer the place is stored too, and has to be 0.
 #[derive(Clone, Copy)]
 struct Stored<S> {
-    number: usize,
-    place: usize,
+    told: Told,
     accepted: Option<(S, usize)>,
 }
 
 fn read_stored<S: Copy, F: Fn(&mut Reader) -> S>(answers: &mut Reader, state: F) -> Stored<S>
     requires { F.IsAlwaysCallable state }
 {
-    let number = answers.byte();
-    let place = answers.eight();
-    let accepted = if number == 0 {
+    let told = Told {
+        number: answers.byte(),
+        place: answers.eight(),
+    };
+    let accepted = if told.number == 0 {
         Some((state(answers), answers.long()))
     } else {
         None
     };
-    Stored {
-        number,
-        place,
-        accepted,
-    }
+    Stored { told, accepted }
 }
 
 // An answer against what is stored of it.
+// kept: a `Result` taken apart, and no choice of a step.
 fn answer_found<S: Copy + PartialEq>(
     stored: Stored<S>,
     answer: Result<(S, usize), Refused>,
 ) -> Result<(), Difference> {
     match answer {
         Ok((state, amount)) => {
-            unless(stored.number == 0, Difference::Number)?;
-            unless(stored.place == 0, Difference::Place)?;
+            stored.told.found(0, 0)?;
             let Some((stored_state, stored_amount)) = stored.accepted else {
                 return Ok(());
             };
             unless(state == stored_state, Difference::State)?;
             unless(amount == stored_amount, Difference::Count)
         }
-        Err(refused) => {
-            unless(
-                stored.number == usize::from(refused.number()),
-                Difference::Number,
-            )?;
-            unless(stored.place == refused.place, Difference::Place)
-        }
+        Err(refused) => stored.told.refused(refused),
     }
 }
 

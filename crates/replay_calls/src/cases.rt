@@ -1,9 +1,10 @@
 // The stored lists of calls, each with the world before it and after it.
-use crate::calls::{Parts, Run, World};
+use crate::calls::{Run, World};
 use crate::states::{layout_state, render_state};
 use stored_answers::compare::{fill, is_next};
 use stored_answers::difference::{Difference, bytes_found, unless};
 use stored_answers::numbers::Reader;
+use stored_answers::parts::Parts;
 
 // The buffers of all lists.
 #[derive(Drop)]

@@ -1,6 +1,7 @@
 // Stored states.
 use layout_call::LayoutState;
 use render_call::RenderState;
+use renderer_rules::Pen;
 use rows::units::Columns;
 use stored_answers::numbers::Reader;
 
@@ -19,9 +20,11 @@ pub(crate) fn layout_state(answers: &mut Reader) -> LayoutState {
 
 pub(crate) fn render_state(answers: &mut Reader) -> RenderState {
     RenderState {
-        indent: answers.long(),
-        next_indent: answers.long(),
-        column: Columns(answers.eight()),
+        pen: Pen {
+            indent: answers.long(),
+            next_indent: answers.long(),
+            column: Columns(answers.eight()),
+        },
         in_use: answers.long(),
         row: answers.long(),
         width: Columns(answers.long()),

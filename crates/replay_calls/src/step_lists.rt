@@ -1,5 +1,6 @@
 // The stored lists of steps. The bytes of an image and of its steps are shown as text where they differ.
-use stored_answers::difference::{Difference, bytes_found, unless};
+use refusals::Reason;
+use stored_answers::difference::{Difference, Told, bytes_found, unless};
 use stored_answers::numbers::Reader;
 use stored_answers::report::count;
 use writer::{steps_of, write_image};
@@ -24,8 +25,9 @@ fn no_room_found(list: &[u8], image: &mut [u8], bytes: usize) -> Result<(), Diff
     match write_image(list, out) {
         Ok(_) => Err(Difference::Number),
         Err(refused) => {
-            unless(refused.number() == 17, Difference::Number)?;
-            unless(refused.place == bytes, Difference::Place)
+            let due = Reason::ImageNeeds.at(bytes);
+            unless(refused.reason == due.reason, Difference::Number)?;
+            unless(refused.place == due.place, Difference::Place)
         }
     }
 }
@@ -72,15 +74,14 @@ pub(crate) fn replay_list(answers: &mut Reader, buffers: &mut Buffers) -> Result
     let number = answers.short();
     let image = *answers;
     let place = answers.long();
+    let told = Told { number, place };
     if number == 0 {
         answers.skip(place);
     }
     match write_image(steps, buffers.image) {
         Err(refused) => {
-            let refusal = usize::from(refused.number());
-            count(buffers.counts, refusal);
-            unless(number == refusal, Difference::Number)?;
-            unless(place == refused.place, Difference::Place)
+            count(buffers.counts, usize::from(refused.number()));
+            told.refused(refused)
         }
         Ok(bytes) => {
             count(buffers.counts, 0);

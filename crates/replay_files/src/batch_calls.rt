@@ -1,14 +1,20 @@
 // The calls for a stored batch: with more room than it needs, with just enough, and with one number or byte less.
-use crate::buffers::{OUTPUT, TABLE, count_files, new_output, new_table, table_found, texts_found};
+use crate::buffers::{NO_BYTE, NO_NUMBER, OUTPUT, TABLE, count_files, table_found, texts_found};
 use crate::due::{Due, answer_found, refusal};
 use batch::{Batch, format_batch};
 use file::FileChoice;
-use refusals::Refused;
-use stored_answers::difference::Difference;
+use refusals::{Reason, Refused};
+use stored_answers::difference::{Difference, Told};
+use stored_answers::group::filled;
 use stored_answers::report::{count, number_of};
 
-// Refuses a table or an output that is too small.
-const NO_ROOM: usize = 19;
+// What refuses a table or an output that is too small.
+fn no_room(place: usize) -> Told {
+    Told {
+        number: usize::from(Reason::BatchNeeds.number()),
+        place,
+    }
+}
 
 // What is formatted, and how.
 #[derive(Clone, Copy)]
@@ -38,8 +44,8 @@ fn call_found(
 
 // The call with more room, whose answers are counted.
 fn ample_found(asked: Asked, due: Due, counts: &mut Counts) -> Result<(), Difference> {
-    let mut table = new_table();
-    let mut output = new_output();
+    let mut table: [u32; TABLE] = filled(NO_NUMBER);
+    let mut output: [u8; OUTPUT] = filled(NO_BYTE);
     let answer = format_batch(asked.frames, &mut table, &mut output, asked.choice);
     count(counts.batches, number_of(answer));
     count_files(counts.files, &table);
@@ -48,8 +54,8 @@ fn ample_found(asked: Asked, due: Due, counts: &mut Counts) -> Result<(), Differ
 
 // The call with so many numbers of table and bytes of output.
 fn lent_found(asked: Asked, due: Due, cells: usize, bytes: usize) -> Result<(), Difference> {
-    let mut table = new_table();
-    let mut output = new_output();
+    let mut table: [u32; TABLE] = filled(NO_NUMBER);
+    let mut output: [u8; OUTPUT] = filled(NO_BYTE);
     let (Some(lent_table), Some(lent_output)) = (table.get_mut(..cells), output.get_mut(..bytes))
     else {
         return Err(Difference::Room);
@@ -64,7 +70,7 @@ fn short_table_found(asked: Asked, due: Due) -> Result<(), Difference> {
     if cells == 0 {
         return Ok(());
     }
-    let refused = refusal(NO_ROOM, cells, due.table);
+    let refused = refusal(no_room(cells), due.table);
     lent_found(asked, refused, cells - 1, OUTPUT)?;
     lent_found(asked, refused, cells - 1, 0)
 }
@@ -75,7 +81,7 @@ fn short_output_found(asked: Asked, due: Due) -> Result<(), Difference> {
     if bytes == 0 {
         return Ok(());
     }
-    let refused = refusal(NO_ROOM, bytes, due.table);
+    let refused = refusal(no_room(bytes), due.table);
     lent_found(asked, refused, due.cells, bytes - 1)
 }
 

@@ -1,6 +1,4 @@
 // Tables and outputs, made anew for each call; and what a call leaves in them.
-ghost use Rattle.std.specs.Prelude.{◌≡◌, length};
-
 use crate::due::{CELLS, Due};
 use stored_answers::compare::{Stored, is_next};
 use stored_answers::difference::{Difference, unless};
@@ -13,21 +11,9 @@ pub(crate) const TABLE: usize = 768;
 pub(crate) const OUTPUT: usize = 1024;
 
 // What a batch doesn't write: no number is as large, and no text has such a byte.
-const NO_NUMBER: u32 = u32::MAX;
+pub(crate) const NO_NUMBER: u32 = u32::MAX;
 
-const NO_BYTE: u8 = u8::MAX;
-
-pub(crate) fn new_table() -> [u32; TABLE]
-    ensures { 768 ≡ length result }
-{
-    [NO_NUMBER; TABLE]
-}
-
-pub(crate) fn new_output() -> [u8; OUTPUT]
-    ensures { 1024 ≡ length result }
-{
-    [NO_BYTE; OUTPUT]
-}
+pub(crate) const NO_BYTE: u8 = u8::MAX;
 
 // The first `size` of a buffer against what is stored, and what is behind against a new buffer's.
 fn buffer_found<T: Stored + PartialEq>(

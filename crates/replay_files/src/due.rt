@@ -1,9 +1,8 @@
 // What is due for a batch: what is stored, or a refusal for want of room.
 use batch::Batch;
 use refusals::Refused;
-use stored_answers::difference::{Difference, unless};
+use stored_answers::difference::{Difference, Told, unless};
 use stored_answers::numbers::Reader;
-use stored_answers::report::number_of;
 
 // How many numbers the table has for a file, and the bytes that they are stored in.
 pub(crate) const CELLS: usize = 3;
@@ -12,10 +11,8 @@ const ROW: usize = 12;
 
 #[derive(Clone, Copy)]
 pub(crate) struct Due<'a> {
-    // the refusal's number, or 0
-    number: usize,
-    // its place, or how many files
-    place: usize,
+    // the refusal's number, or 0; its place, or how many files
+    told: Told,
     // how many numbers the table gets, and where they are stored
     pub cells: usize,
     pub table: Reader<'a>,
@@ -25,10 +22,9 @@ pub(crate) struct Due<'a> {
 }
 
 // A refusal, under which table and output get nothing.
-pub(crate) fn refusal(number: usize, place: usize, answers: Reader<'_>) -> Due<'_> {
+pub(crate) fn refusal(told: Told, answers: Reader<'_>) -> Due<'_> {
     Due {
-        number,
-        place,
+        told,
         cells: 0,
         table: answers,
         bytes: 0,
@@ -38,20 +34,22 @@ pub(crate) fn refusal(number: usize, place: usize, answers: Reader<'_>) -> Due<'
 
 // The answer that comes next.
 pub(crate) fn read_due<'a>(answers: &mut Reader<'a>) -> Due<'a> {
-    let number = answers.short();
-    let place = answers.long();
+    let told = Told {
+        number: answers.short(),
+        place: answers.long(),
+    };
+    let files = told.place;
     let table = *answers;
-    if number != 0 {
-        return refusal(number, place, table);
+    if told.number != 0 {
+        return refusal(told, table);
     }
-    answers.skip(place * ROW);
+    answers.skip(files * ROW);
     let bytes = answers.long();
     let texts = *answers;
     answers.skip(bytes);
     Due {
-        number,
-        place,
-        cells: place * CELLS,
+        told,
+        cells: files * CELLS,
         table,
         bytes,
         texts,
@@ -60,12 +58,12 @@ pub(crate) fn read_due<'a>(answers: &mut Reader<'a>) -> Due<'a> {
 
 // An answer against what is due.
 pub(crate) fn answer_found(answer: Result<Batch, Refused>, due: Due) -> Result<(), Difference> {
-    unless(number_of(answer) == due.number, Difference::Number)?;
     match answer {
-        Ok(batch) => unless(
-            batch.files == due.place && batch.bytes == due.bytes,
-            Difference::Count,
-        ),
-        Err(refused) => unless(refused.place == due.place, Difference::Place),
+        Ok(batch) => {
+            unless(due.told.number == 0, Difference::Number)?;
+            let same = batch.files == due.told.place && batch.bytes == due.bytes;
+            unless(same, Difference::Count)
+        }
+        Err(refused) => due.told.refused(refused),
     }
 }

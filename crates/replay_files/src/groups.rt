@@ -3,13 +3,13 @@ use crate::batch_calls::Counts;
 use crate::batches::replay_batch;
 use crate::frames::{Buffers, replay_frame};
 use file::{marks, rows};
-use stored_answers::group::room;
+use stored_answers::group::filled;
 use stored_answers::report::{replay, show_counts, show_end};
 
 pub(crate) fn frames(rt: &impl Print, answers: &[u8]) {
     let mut store = rows();
     let mut marks = marks();
-    let mut out: [u8; 65536] = room();
+    let mut out: [u8; 65536] = filled(0);
     let mut counts = [0usize; 14];
     let mut buffers = Buffers {
         store: &mut store,

@@ -14,11 +14,11 @@ mod pieces;
 mod stored;
 mod whole;
 
-use stored_answers::group::{ROOM, read, room};
+use stored_answers::group::{ROOM, filled, read};
 
 // kept: which groups there are is all that it says; a function over a table of them would be no plainer.
 fn main(rt: HostRuntime) {
-    let mut input: [u8; ROOM] = room();
+    let mut input: [u8; ROOM] = filled(0);
     let n = read(&rt, "frames", &mut input);
     groups::frames(&rt, &input[..n]);
     let n = read(&rt, "batches", &mut input);

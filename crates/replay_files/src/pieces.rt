@@ -4,20 +4,15 @@ use crate::stored::{Accepted, Stored};
 use file::{REFERENCE_WIDTH, Text, render_fresh};
 use layout_call::modes::OLD_MODE;
 use layout_call::{Laid, LayoutArgs, LayoutState, layout_call};
+use refusals::Reason;
 use render_call::{RenderArgs, render_call};
 use rows::units::Columns;
 use stored_answers::difference::{Difference, unless};
 use stored_answers::numbers::{Reader, past};
+use stored_answers::parts::Parts;
 
 // The longest frame there may be.
 const LONGEST: usize = 32768;
-
-// A frame's source and image.
-#[derive(Clone, Copy)]
-struct Parts<'a> {
-    source: &'a [u8],
-    image: &'a [u8],
-}
 
 // The source's length in four bytes, the source and the image.
 fn parts_of(frame: &[u8]) -> Option<Parts<'_>> {
@@ -133,18 +128,20 @@ fn refused_found(stored: &Stored, parts: Parts, store: &mut [u32]) -> Result<(),
         args,
     ) {
         Ok(_) => Err(Difference::Number),
-        Err(refused) => stored.refusal_found(usize::from(refused.number()), refused.place),
+        Err(refused) => stored.told.refused(refused),
     }
 }
 
 // Refusal 13 first, then the parts of the frame; what the whole run alone refuses, with 8 or 10, is left to it.
 pub(crate) fn pieces(stored: &Stored, frame: &[u8], b: &mut Buffers) -> Result<(), Difference> {
     let Some(parts) = parts_of(frame) else {
-        return stored.refusal_found(13, 0);
+        return stored.told.refused(Reason::Frame.at(0));
     };
     match stored.accepted {
         Some(accepted) => by_declarations(&accepted, parts, b),
-        None if stored.number < 8 => refused_found(stored, parts, b.store),
+        None if stored.told.number < usize::from(Reason::RowsNeeded.number()) => {
+            refused_found(stored, parts, b.store)
+        }
         None => Ok(()),
     }
 }

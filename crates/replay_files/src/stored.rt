@@ -4,7 +4,7 @@ use crate::line::line_found;
 use file::Text;
 use rows::places::PLACES;
 use rows::units::Bytes;
-use stored_answers::difference::{Difference, bytes_found, unless};
+use stored_answers::difference::{Difference, Told, bytes_found, unless};
 use stored_answers::numbers::Reader;
 
 // How many bytes a stop has.
@@ -13,8 +13,7 @@ const STOP: usize = 16;
 // The refusal number and the place; and what is stored of a frame that is accepted.
 #[derive(Clone, Copy)]
 pub(crate) struct Stored<'a> {
-    pub number: usize,
-    pub place: usize,
+    pub told: Told,
     pub accepted: Option<Accepted<'a>>,
 }
 
@@ -58,12 +57,13 @@ fn read_accepted<'a>(answers: &mut Reader<'a>) -> Accepted<'a> {
 
 // The answer that comes next.
 pub(crate) fn read_stored<'a>(answers: &mut Reader<'a>) -> Stored<'a> {
-    let number = answers.byte();
-    let place = answers.eight();
+    let told = Told {
+        number: answers.byte(),
+        place: answers.eight(),
+    };
     Stored {
-        number,
-        place,
-        accepted: if number == 0 {
+        told,
+        accepted: if told.number == 0 {
             Some(read_accepted(answers))
         } else {
             None
@@ -72,12 +72,6 @@ pub(crate) fn read_stored<'a>(answers: &mut Reader<'a>) -> Stored<'a> {
 }
 
 impl Stored<'_> {
-    // A refusal against the one that is stored.
-    pub(crate) fn refusal_found(&self, number: usize, place: usize) -> Result<(), Difference> {
-        unless(self.number == number, Difference::Number)?;
-        unless(self.place == place, Difference::Place)
-    }
-
     // What the program writes, the first n bytes of its output: the text, or the line with number and place.
     pub(crate) fn reply_found(&self, out: &[u8], n: usize) -> Result<(), Difference> {
         let Some(reply) = out.get(..n) else {
@@ -85,7 +79,7 @@ impl Stored<'_> {
         };
         match self.accepted {
             Some(accepted) => accepted.bytes_found(reply, Difference::Reply),
-            None => line_found(reply, self.number, self.place),
+            None => line_found(reply, self.told.number, self.told.place),
         }
     }
 }

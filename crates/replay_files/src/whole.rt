@@ -14,13 +14,12 @@ fn formatted_found(
 ) -> Result<(), Difference> {
     match format_frame(frame, out) {
         Err(refused) => {
-            let number = usize::from(refused.number());
-            count(counts, number);
-            stored.refusal_found(number, refused.place)
+            count(counts, usize::from(refused.number()));
+            stored.told.refused(refused)
         }
         Ok(text) => {
             count(counts, 0);
-            stored.refusal_found(0, 0)?;
+            stored.told.found(0, 0)?;
             let Some(accepted) = stored.accepted else {
                 return Err(Difference::Number);
             };

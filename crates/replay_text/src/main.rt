@@ -10,7 +10,7 @@ mod strings;
 use input::read_full;
 use samples::samples;
 use spaces::spaces;
-use stored_answers::group::room;
+use stored_answers::group::filled;
 use stored_answers::numbers::Reader;
 use stored_answers::report::show_end;
 use strings::strings;
@@ -31,7 +31,7 @@ fn replay(rt: &impl Print, answers: &[u8]) {
 }
 
 fn main(rt: HostRuntime) {
-    let mut input: [u8; ROOM] = room();
+    let mut input: [u8; ROOM] = filled(0);
     let n = read_full(&mut rt.stdin(), &mut input);
     if n == ROOM {
         let _ = println!(&rt; "the answers have no room");

@@ -4,6 +4,7 @@ use stored_answers::numbers::Reader;
 use text::utf8::check;
 
 // A check as it is stored.
+// kept: a number and no Option: it is compared with a stored byte, which is 255 where the check accepts.
 pub(crate) fn check_answer(s: &[u8]) -> usize {
     match check(s) {
         Ok(()) => 255,

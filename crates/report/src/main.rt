@@ -4,7 +4,6 @@
 mod progress;
 
 ghost use Rattle.std.specs.Prelude.{◌≡◌, length, IfOk};
-ghost use Rattle.report.specs.Front.{SOURCE_KEPT, IMAGE_KEPT};
 ghost use Rattle.report.specs.Report.{Fed};
 
 use feed::{Cut, IMAGE_KEPT, LENGTHS, SOURCE_KEPT, read_file};
@@ -23,17 +22,11 @@ struct Ended {
     came: Result<Option<usize>, Cut>,
 }
 
-// Room for what is kept of a source and of an image.
-fn source_room() -> [u8; SOURCE_KEPT]
-    ensures { SOURCE_KEPT ≡ length result }
+// Room for so many bytes. A caller knows no more of it than its length.
+fn room<const N: usize>() -> [u8; N]
+    ensures { N ≡ length result }
 {
-    [0; SOURCE_KEPT]
-}
-
-fn image_room() -> [u8; IMAGE_KEPT]
-    ensures { IMAGE_KEPT ≡ length result }
-{
-    [0; IMAGE_KEPT]
+    [0; N]
 }
 
 // Takes the files one after another, and writes their lines, until the input ends.
@@ -63,8 +56,8 @@ fn take_files<R: Read>(
 
 // Writes the whole table.
 fn report<R: Read>(rt: &impl Print, input: &mut R) -> io::Result<()> {
-    let mut source = source_room();
-    let mut image = image_room();
+    let mut source: [u8; SOURCE_KEPT] = room();
+    let mut image: [u8; IMAGE_KEPT] = room();
     rt.write_all(heads_line().as_bytes())?;
     let held = take_files(rt, input, &mut source, &mut image)?.progress;
     rt.write_all(last_lines(held.tallies, held.refused).as_str().as_bytes())

@@ -14,6 +14,7 @@ const COLUMNS: usize = 10;
 pub(crate) const FIGURES_ROOM: usize = 147;
 
 // Appends a text, set to the right in ten columns. No text of a cell is longer than a number of 64 bits.
+// kept: blanks in a loop. `write!` with a width counts characters, no bytes, and promises what it wrote only where it answers `Ok`.
 #[tactic(auto, unfolding(crate::specs::Table::cell))]
 pub(crate) fn put_cell(line: &mut Line, text: &str)
     requires text { length text.now ≤ DIGITS }
@@ -43,9 +44,7 @@ pub(crate) fn put_figures(line: &mut Line, f: Figures)
     ensures bytes { line.new.bytes ≡ line.old.bytes ++ cells (in_order f) }
     ensures len { length line.new.bytes ≤ length line.old.bytes + FIGURES_ROOM }
 {
-    for n in [
-        f.bytes, f.newlines, f.column, f.given, f.wrapped, f.placed, f.left,
-    ] {
+    for n in f.in_order() {
         line.push_str(" ");
         put_number(line, n);
     }

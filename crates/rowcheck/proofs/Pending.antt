@@ -237,6 +237,7 @@ module _ (source image s : List ℕ) (from stop : ℕ) where
   unfolding wrong_place
   stop_past h k = rw (le-leb stop MAX_ROWS h, lt-leb (stop * PLACES) (length s) k)
 
-  pub stop_fits : stop ≤ MAX_ROWS → stop * PLACES ≤ length s → wrong_place source image s from stop ≡ wrong_row_of (places_fit source image s) (view_of s) stop 0 from
+  pub stop_fits : stop ≤ MAX_ROWS → stop * PLACES ≤ length s
+      → wrong_place source image s from stop ≡ wrong_row_of (places_fit source image s) (view_of s) stop 0 from
   unfolding wrong_place
   stop_fits h k = rw (le-leb stop MAX_ROWS h, le-leb (stop * PLACES) (length s) k)

@@ -3,23 +3,24 @@
 
 ghost use Rattle.std.specs.Prelude.{◌≡◌, ◌&&◌, ◌||◌, ◌+◌, ◌*◌, ◌-◌, ◌≤◌, ◌<◌, length, eqb};
 ghost use Rattle.rows.specs.Kinds.{number_of};
-ghost use Rattle.rows.specs.Places.{KIND, AFTER, WIDTH, PLACES};
+ghost use Rattle.rows.specs.Places.{KIND, AFTER, PLACES};
 ghost use Rattle.rows.specs.Limits.{MAX_ROWS};
 ghost use Rattle.rows.specs.View.{cell, view_of};
 ghost use Rattle.renderer_rules.specs.Check.{reaches, has_two, is_split, parts_fit, text_fits, places_fit, row_fits_of, wrong_row_of, wrong_place};
 ghost use Rattle.refusals.specs.Refusals.{refuse_at};
 ghost use Rattle.refusals.specs.Reasons.{refusal_in};
 
+use arrayvec::ArrayVec;
 use refusals::{Reason, Refused};
 use rows::kinds::Kind;
 use rows::limits::{MAX_DEPTH, MAX_ROWS};
-use rows::origins::origin_text;
+use rows::origins::Origin;
 use rows::places::{AFTER, NUMBER, ORIGIN, PLACES, SECOND, SECOND_NUMBER, SIZE, START, WIDTH};
-use rows::stack::Stack;
 use rows::store::{place, row_kind};
+use rows::texts::Rows;
 
 // Whether row b is reached from row a, row after row.
-// kept: the next row is read from the one before, so that no range has the rows.
+// kept: a loop, since each next row is read from the last one. An iterator would have this loop in it, and its invariant, for this use alone.
 fn is_reached(store: &[u32], a: usize, b: usize, steps: usize) -> bool
     requires { (a ≤ b) × ((b * PLACES ≤ length store.now) × ((b ≤ MAX_ROWS) × (b - a ≤ steps))) }
     ensures { result ≡ reaches steps (view_of store.now) a b }
@@ -35,45 +36,45 @@ fn is_reached(store: &[u32], a: usize, b: usize, steps: usize) -> bool
     true
 }
 
-// A row of a store, and the row after its last part, which is behind it and not past the store.
+// A row, and the row after its last part, which is behind it and not past the store.
 #[derive(Clone, Copy)]
 struct Block<'a> {
-    store: &'a [u32],
+    rows: Rows<'a>,
     row: usize,
     after: usize,
-    ghost inside: { (row < after) × ((after * PLACES ≤ length store.now) × ((after ≤ MAX_ROWS) × (after ≡ cell store.now row AFTER))) },
+    ghost inside: { (row < after) × ((after * PLACES ≤ length rows.store.now) × ((after ≤ MAX_ROWS) × (after ≡ cell rows.store.now row AFTER))) },
 }
 
 impl Block<'_> {
     // Whether the parts of an `IfWrap` are two.
     #[tactic(auto, unfolding(rows::specs::View::view_of))]
     fn has_two(&self) -> bool
-        ensures { result ≡ has_two (view_of self.now.store.now) self.now.row }
+        ensures { result ≡ has_two (view_of self.now.rows.store.now) self.now.row }
     {
-        let second = place(self.store, self.row, SECOND);
+        let second = place(self.rows.store, self.row, SECOND);
         self.row + 1 < second
             && second < self.after
-            && place(self.store, self.row + 1, AFTER) == second
-            && place(self.store, second, AFTER) == self.after
+            && place(self.rows.store, self.row + 1, AFTER) == second
+            && place(self.rows.store, second, AFTER) == self.after
     }
 
     // Whether the second part of a `Call` starts at a part or at the end.
     #[tactic(auto, unfolding(rows::specs::View::view_of))]
     fn is_split(&self) -> bool
-        ensures { result ≡ is_split (view_of self.now.store.now) self.now.row }
+        ensures { result ≡ is_split (view_of self.now.rows.store.now) self.now.row }
     {
-        let second = place(self.store, self.row, SECOND);
+        let second = place(self.rows.store, self.row, SECOND);
         second == self.after
             || self.row < second
                 && second < self.after
-                && is_reached(self.store, self.row + 1, second, self.after - self.row)
+                && is_reached(self.rows.store, self.row + 1, second, self.after - self.row)
     }
 
     // Whether the parts of a row are right for its kind.
     // kept: a choice by a kind, which is read from the row, and not among steps that a caller has.
     #[tactic(auto, unfolding(renderer_rules::specs::Check::parts_fit, rows::specs::View::view_of))]
     fn parts_fit(&self, kind: Kind) -> bool
-        ensures { result ≡ parts_fit (view_of self.now.store.now) self.now.row (number_of kind) }
+        ensures { result ≡ parts_fit (view_of self.now.rows.store.now) self.now.row (number_of kind) }
     {
         match kind {
             Kind::Group | Kind::Indent | Kind::IndentNext => true,
@@ -88,89 +89,83 @@ impl Block<'_> {
             Kind::Call => self.is_split(),
         }
     }
-}
 
-// Whether the text of a row is inside its origin.
-fn text_fits(store: &[u32], source: &[u8], image: &[u8], row: usize) -> bool
-    requires { row * PLACES + WIDTH < length store.now }
-    ensures { result ≡ text_fits source.now image.now store.now row }
-{
-    let origin = place(store, row, ORIGIN);
-    let end = place(store, row, START) + place(store, row, SIZE);
-    origin <= 2 && end <= origin_text(source, image, origin).len()
-}
-
-// Whether the text is right, and each unused place is 0: so is their sum then, which is one test.
-#[tactic(auto, unfolding(renderer_rules::specs::Check::places_fit))]
-fn places_fit(store: &[u32], source: &[u8], image: &[u8], row: usize, kind: Kind) -> bool
-    requires { (row * PLACES + WIDTH < length store.now) × (cell store.now row KIND ≡ number_of kind) }
-    ensures { result ≡ places_fit source.now image.now store.now row }
-{
-    let number = place(store, row, NUMBER);
-    let second_number = place(store, row, SECOND_NUMBER);
-    let second = place(store, row, SECOND);
-    let width = place(store, row, WIDTH);
-    let text = place(store, row, ORIGIN) + place(store, row, START) + place(store, row, SIZE);
-    match kind {
-        Kind::Group => second_number + second + width + text == 0,
-        Kind::Call => width + text == 0,
-        Kind::IfWrap => second_number + width + text == 0,
-        Kind::Indent
-        | Kind::IndentNext
-        | Kind::WrapParent
-        | Kind::Line
-        | Kind::EmptyLine
-        | Kind::LineOrSpace => number + second_number + second + width + text == 0,
-        Kind::Str => {
-            number + second_number + second == 0 && text_fits(store, source, image, row)
+    // Whether the text is inside its origin.
+    fn text_fits(&self) -> bool
+        ensures { result ≡ text_fits self.now.rows.source.now self.now.rows.image.now self.now.rows.store.now self.now.row }
+    {
+        let store = self.rows.store;
+        let end = place(store, self.row, START) + place(store, self.row, SIZE);
+        match Origin::of(place(store, self.row, ORIGIN)) {
+            Some(origin) => end <= origin.text(self.rows.source, self.rows.image).len(),
+            None => false,
         }
-        Kind::Comment | Kind::Ascii => {
-            number + second_number + second + width == 0 && text_fits(store, source, image, row)
+    }
+
+    // Whether the text is right, and each unused place is 0: so is their sum then, which is one test.
+    #[tactic(auto, unfolding(renderer_rules::specs::Check::places_fit))]
+    fn places_fit(&self, kind: Kind) -> bool
+        requires { cell self.now.rows.store.now self.now.row KIND ≡ number_of kind }
+        ensures { result ≡ places_fit self.now.rows.source.now self.now.rows.image.now self.now.rows.store.now self.now.row }
+    {
+        let store = self.rows.store;
+        let number = place(store, self.row, NUMBER);
+        let second_number = place(store, self.row, SECOND_NUMBER);
+        let second = place(store, self.row, SECOND);
+        let width = place(store, self.row, WIDTH);
+        let text = place(store, self.row, ORIGIN)
+            + place(store, self.row, START)
+            + place(store, self.row, SIZE);
+        match kind {
+            Kind::Group => second_number + second + width + text == 0,
+            Kind::Call => width + text == 0,
+            Kind::IfWrap => second_number + width + text == 0,
+            Kind::Indent
+            | Kind::IndentNext
+            | Kind::WrapParent
+            | Kind::Line
+            | Kind::EmptyLine
+            | Kind::LineOrSpace => number + second_number + second + width + text == 0,
+            Kind::Str => number + second_number + second == 0 && self.text_fits(),
+            Kind::Comment | Kind::Ascii => {
+                number + second_number + second + width == 0 && self.text_fits()
+            }
         }
     }
 }
 
 // Whether a row is right, with the rows around it this many and the innermost up to `end`.
-#[tactic(auto, using(rows::proofs::KindOf::is_kind, crate::proofs::Laws::no_parts), unfolding(renderer_rules::specs::Check::row_fits_of, rows::specs::View::view_of))]
-fn row_fits(
-    store: &[u32],
-    source: &[u8],
-    image: &[u8],
-    end: usize,
-    depth: usize,
-    row: usize,
-) -> bool
-    requires { (row < end) × ((end * PLACES ≤ length store.now) × (end ≤ MAX_ROWS)) }
-    ensures { result ≡ row_fits_of (places_fit source.now image.now store.now) (view_of store.now) end depth row }
+#[tactic(auto, using(crate::proofs::Laws::no_parts), unfolding(renderer_rules::specs::Check::row_fits_of, rows::specs::View::view_of))]
+fn row_fits(rows: Rows<'_>, end: usize, depth: usize, row: usize) -> bool
+    requires { (row < end) × ((end * PLACES ≤ length rows.store.now) × (end ≤ MAX_ROWS)) }
+    ensures { result ≡ row_fits_of (places_fit rows.entry.source.now rows.entry.image.now rows.entry.store.now) (view_of rows.entry.store.now) end depth row }
 {
-    let after = place(store, row, AFTER);
+    let after = place(rows.store, row, AFTER);
     if MAX_DEPTH <= depth || after <= row || end < after {
         return false;
     }
-    match row_kind(store, row) {
-        Some(kind) => {
-            Block { store, row, after }.parts_fit(kind)
-                && places_fit(store, source, image, row, kind)
-        }
+    let block = Block { rows, row, after };
+    match row_kind(rows.store, row) {
+        Some(kind) => block.parts_fit(kind) && block.places_fit(kind),
         None => false,
     }
 }
 
 // The first row from `from` up to `stop` that is not right. `ends` has where the rows around the open part end.
-// kept: the store and the texts one by one, since the loop's invariant speaks of each, and is handed no field of a struct.
-fn wrong_row(store: &[u32], source: &[u8], image: &[u8], from: usize, stop: usize) -> Option<usize>
-    requires { (stop * PLACES ≤ length store.now) × (stop ≤ MAX_ROWS) }
-    ensures { result ≡ wrong_row_of (places_fit source.now image.now store.now) (view_of store.now) stop 0 from }
+fn wrong_row(rows: Rows<'_>, from: usize, stop: usize) -> Option<usize>
+    requires { (stop * PLACES ≤ length rows.store.now) × (stop ≤ MAX_ROWS) }
+    ensures { result ≡ wrong_row_of (places_fit rows.entry.source.now rows.entry.image.now rows.entry.store.now) (view_of rows.entry.store.now) stop 0 from }
 {
-    let mut ends: Stack<MAX_DEPTH> = Stack::new();
+    let mut ends: ArrayVec<u32, MAX_DEPTH> = ArrayVec::new();
     let mut end = stop;
     let mut row = from;
+    // kept: the next row is one on, or there is none and a block ends: no range has these turns.
     loop {
         if row < end {
-            if !row_fits(store, source, image, end, ends.len(), row) {
+            if !row_fits(rows, end, ends.len(), row) {
                 return Some(row);
             }
-            let after = place(store, row, AFTER);
+            let after = place(rows.store, row, AFTER);
             if row + 1 < after {
                 ends.push(end as u32);
                 end = after;
@@ -186,19 +181,13 @@ fn wrong_row(store: &[u32], source: &[u8], image: &[u8], from: usize, stop: usiz
 }
 
 // Refusal 11: whether the rows from `from` up to `stop` may be rendered; place 0 for the stop.
-pub fn check_rows(
-    store: &[u32],
-    source: &[u8],
-    image: &[u8],
-    from: usize,
-    stop: usize,
-) -> Result<(), Refused>
-    ensures { refusal_in result ≡ refuse_at (wrong_place source.now image.now store.now from stop) 11 }
+pub fn check_rows(rows: Rows<'_>, from: usize, stop: usize) -> Result<(), Refused>
+    ensures { refusal_in result ≡ refuse_at (wrong_place rows.entry.source.now rows.entry.image.now rows.entry.store.now from stop) 11 }
 {
-    if MAX_ROWS < stop || store.len() < stop * PLACES {
+    if MAX_ROWS < stop || rows.store.len() < stop * PLACES {
         return Err(Reason::Rows.at(0));
     }
-    match wrong_row(store, source, image, from, stop) {
+    match wrong_row(rows, from, stop) {
         Some(row) => Err(Reason::Rows.at(row)),
         None => Ok(()),
     }

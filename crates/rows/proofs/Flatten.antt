@@ -254,7 +254,8 @@ leaf_nests s i kind t w j d r a b c g =
     leaf {i = i} {j = j} {d = d} (rw e a) (rw e b) (f ∙ add-one i) (omega arith) (omega arith) (rw (add-one i) at g)
 
 module _ (s : List ℕ) (i kind n z j d : ℕ) (r : Row s i kind n 0 0 (i + (1 + z)) no_text 0) where
-  block_nests : kind ≤ INDENT_NEXT → d < MAX_DEPTH → Nests (view_of s) (i + 1) (i + 1 + z) (suc d) → Nests (view_of s) (i + (1 + z)) j d → Nests (view_of s) i j d
+  block_nests : kind ≤ INDENT_NEXT → d < MAX_DEPTH → Nests (view_of s) (i + 1) (i + 1 + z) (suc d) → Nests (view_of s) (i + (1 + z)) j d
+      → Nests (view_of s) i j d
   block_nests k c p g =
       let f = r.is_after in
       let e = r.is_kind in
@@ -289,7 +290,8 @@ module _ (s : List ℕ) (i kind n k x y j d : ℕ) (r : Row s i kind n k (i + (1
         let b = r.is_after in
         pair {i = i} {j = j} {d = d} (r.is_kind ∙ e) inside (record { up = omega arith; to = omega arith }) c first_part second_part (rw b g)
 
-    two_nests : kind ≡ IF_WRAP → (view_of s).after (i + 1) ≡ i + 1 + x → (view_of s).after (i + (1 + x)) ≡ i + (1 + x) + y → 0 < x → 0 < y → Nests (view_of s) i j d
+    two_nests : kind ≡ IF_WRAP → (view_of s).after (i + 1) ≡ i + 1 + x → (view_of s).after (i + (1 + x)) ≡ i + (1 + x) + y → 0 < x → 0 < y
+        → Nests (view_of s) i j d
     two_nests e u w l m =
         let a = r.is_second in
         let b = r.is_after in

@@ -1,12 +1,12 @@
 pub mod Decode
 pub mod Flatten
 pub mod KindOf
+pub mod LastFirst
 pub mod MustWrap
 pub mod Nested
 pub mod OriginText
 pub mod OwnWidth
 pub mod Part
 pub mod Sizes
-pub mod Stacked
 pub mod Table
 pub mod Widths

@@ -1,26 +1,23 @@
--- The text of an origin, by its number.
+-- An origin and its number, each from the other, and the text of a number that is none.
 -- Assumes nothing.
 use Prim.Native.Nat.{ℕ, zero, suc}
 use mathlib.Core.Path.{◌≡◌, refl}
 use mathlib.Core.List.{List, []}
-use Rattle.rows.specs.Words.{words}
-use Rattle.rows.specs.Texts.{origin_text}
+use Rattle.std.specs.Prelude.{Some, None}
+use Rattle.rows.specs.Texts.{origin_text, origin_number, origin_of}
+use Rattle.rows.specs.declared.origins.Origin.{Origin}
 
-pub origin_source : (source image : List ℕ) (origin : ℕ) → origin ≡ 0 → origin_text source image origin ≡ source
-unfolding origin_text
-origin_source source image origin e = rw e
+-- the number that has an origin is the origin's
+pub is_origin : (n : ℕ) (o : Origin) → origin_of n ≡ Some o → n ≡ origin_number o
+is_origin zero o e = cc
+is_origin (suc zero) o e = cc
+is_origin (suc (suc zero)) o e = cc
+is_origin (suc (suc (suc n))) o e = absurd (cc)
 
-pub origin_image : (source image : List ℕ) (origin : ℕ) → origin ≡ 1 → origin_text source image origin ≡ image
+-- a number that has no origin has no text
+pub no_origin : (source image : List ℕ) (n : ℕ) → origin_of n ≡ None → origin_text source image n ≡ []
 unfolding origin_text
-origin_image source image origin e = rw e
-
-pub origin_words : (source image : List ℕ) (origin : ℕ) → origin ≡ 2 → origin_text source image origin ≡ words
-unfolding origin_text
-origin_words source image origin e = rw e
-
-pub origin_none : (source image : List ℕ) (origin : ℕ) → (origin ≡ 0 → ⊥) → (origin ≡ 1 → ⊥) → (origin ≡ 2 → ⊥) → origin_text source image origin ≡ []
-unfolding origin_text
-origin_none source image zero a b c = absurd (a refl)
-origin_none source image (suc zero) a b c = absurd (b refl)
-origin_none source image (suc (suc zero)) a b c = absurd (c refl)
-origin_none source image (suc (suc (suc n))) a b c = refl
+no_origin source image zero e = absurd (cc)
+no_origin source image (suc zero) e = absurd (cc)
+no_origin source image (suc (suc zero)) e = absurd (cc)
+no_origin source image (suc (suc (suc n))) e = refl

@@ -5,7 +5,6 @@ pub mod Nesting
 pub mod Node
 pub mod Places
 pub mod Rows
-pub mod Stack
 pub mod Texts
 pub mod View
 pub mod Words

@@ -1,6 +1,6 @@
--- The places of a row, in document 01's order: kind, number, second number, first row of the second part, row after the last descendant, text
--- origin, text start, text length, width.
-use Rattle.std.specs.Prelude.{ℕ}
+-- The places of a row, in document 01's order: kind, number, second number, first row of the second part, row after the last
+-- descendant, text origin, text start, text length, width.
+use Rattle.std.specs.Prelude.{ℕ, ◌+◌, ◌*◌, ◌<◌, List, length}
 
 abbrev pub KIND : ℕ
 KIND = 0
@@ -32,3 +32,10 @@ WIDTH = 8
 -- how many they are
 abbrev pub PLACES : ℕ
 PLACES = 9
+
+-- place k of row i is in a store; and each place of it
+abbrev pub PlaceIn : List ℕ → ℕ → ℕ → Type 0
+PlaceIn store i k = i * PLACES + k < length store
+
+abbrev pub RowIn : List ℕ → ℕ → Type 0
+RowIn store i = PlaceIn store i WIDTH

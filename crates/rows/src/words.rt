@@ -4,4 +4,5 @@
 pub const WORDS_SIZE: usize = 178;
 
 pub const WORDS: [u8; WORDS_SIZE] =
-    *b"filtermap const record enum fn test import -> let returnacceptrejectmatch if while for  else  in  if  =>  =  +=  -=  *=  /=  %= :  ;,.?!-_()[]{}()f\"\"truefalse&&||==!=<<=>>=+*/%**";
+    *b"filtermap const record enum fn test import -> let returnacceptreject\
+    match if while for  else  in  if  =>  =  +=  -=  *=  /=  %= :  ;,.?!-_()[]{}()f\"\"truefalse&&||==!=<<=>>=+*/%**";

@@ -9,7 +9,7 @@ use crate::places::AFTER;
 use crate::store::{has_kind, place};
 
 // Whether a row from `from` up to `to`, or one in an `Indent` there, wraps what encloses it.
-// kept: the next row is one on or behind a part, so that no range has the rows.
+// kept: a loop, since each next row is read from the last one. An iterator would have this loop in it, and its invariant, for this use alone.
 pub fn must_wrap(store: &[u32], from: usize, to: usize) -> bool
     requires { Nested store.now from to }
     ensures { result ≡ must_wraps (nodes_at (view_of store.now) from to) }

@@ -1,9 +1,10 @@
 -- What differs from stored answers, and what is told of it.
-use Rattle.std.specs.Prelude.{Bool, cond, not, ◌&&◌, List, [], ◌∷◌, ℕ, eqb, length, get_or, Result, Ok, Err}
+use Rattle.std.specs.Prelude.{Bool, cond, not, ◌&&◌, List, [], ◌∷◌, ℕ, eqb, length, Result, Ok, Err}
 use Rattle.refusals.specs.Reasons.{number_of}
 use Rattle.refusals.specs.declared.Refused.{Refused}
-use Rattle.stored_answers.specs.Numbers.{onward, long, eight, has_bytes}
+use Rattle.stored_answers.specs.Numbers.{onward, long, has_bytes}
 use Rattle.stored_answers.specs.declared.difference.Difference.{Difference}
+use Rattle.stored_answers.specs.declared.difference.Told.{Told}
 use Rattle.stored_answers.specs.declared.difference.Difference.TheVariants.{Number, Place}
 use Rattle.stored_answers.specs.declared.report.Compared.{Compared}
 
@@ -16,10 +17,9 @@ first_of (Err e) b = Err e
 abbrev pub or_same : Bool → Difference → Result (Unit {0}) Difference
 or_same same what = cond same (Ok tt) (Err what)
 
--- a refusal against the number and the place stored at `at`
-abbrev pub refusal_found : List ℕ → ℕ → ℕ → ℕ → Result (Unit {0}) Difference
-refusal_found d at number place =
-    first_of (or_same (eqb (get_or d at 0) number) Number) (or_same (eqb (eight d (onward at 1)) place) Place)
+-- the number and the place that are stored against those that were answered
+abbrev pub told_found : Told → ℕ → ℕ → Result (Unit {0}) Difference
+told_found t number place = first_of (or_same (eqb t.number number) Number) (or_same (eqb t.place place) Place)
 
 -- bytes against those stored at `at` with their number before them
 abbrev pub bytes_found : List ℕ → List ℕ → ℕ → Difference → Result (Unit {0}) Difference

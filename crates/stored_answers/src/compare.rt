@@ -38,6 +38,8 @@ impl Stored for u32 {
 }
 
 /// Fills a buffer with what comes next.
+// kept: by the index, as the promise is about places: a loop over what `iter_mut` lends would have its rest in the invariant, and the places that
+// are filled would have to be read from it.
 #[tactic(auto, using(crate::proofs::Listing::filling_start, crate::proofs::Listing::filling_end))]
 pub fn fill<T: Stored>(b: &mut [T], answers: &mut Reader)
     ensures { b.new ≡ listed (T.stored answers.old.answers.now) T.width (length b.old) answers.old.place }

@@ -1,11 +1,13 @@
 // The first difference from stored answers.
-ghost use Rattle.std.specs.Prelude.{◌≡◌, eqb, length, get_or};
-ghost use Rattle.stored_answers.specs.Numbers.{onward, long as long_number, eight as eight_number};
-ghost use Rattle.stored_answers.specs.Differences.{or_same, refusal_found, bytes_found};
+ghost use Rattle.std.specs.Prelude.{◌≡◌};
+ghost use Rattle.refusals.specs.Reasons.{number_of};
+ghost use Rattle.stored_answers.specs.Numbers.{long as long_number};
+ghost use Rattle.stored_answers.specs.Differences.{or_same, told_found, bytes_found};
 ghost use Rattle.stored_answers.specs.Reading.{moved};
 
 use crate::compare::is_next;
 use crate::numbers::Reader;
+use refusals::Refused;
 use std::error::Error;
 use std::fmt;
 
@@ -62,17 +64,31 @@ pub fn unless(same: bool, what: Difference) -> Result<(), Difference>
     if same { Ok(()) } else { Err(what) }
 }
 
-/// A refusal against the number and the place that come next.
-pub fn refusal_found(answers: &mut Reader, number: usize, place: usize) -> Result<(), Difference>
-    ensures value { result ≡ refusal_found answers.old.answers.now answers.old.place number place }
-    ensures goes { answers.new ≡ moved (moved answers.old 1) 8 }
-{
-    let stored_number = answers.byte();
-    let stored_place = answers.eight();
-    unless(stored_number == number, Difference::Number).and(unless(
-        stored_place == place,
-        Difference::Place,
-    ))
+/// What is stored of an answer: the refusal's number, or 0, and the place.
+// kept: two numbers and no Option, as they are stored: of an accepted answer both are compared with 0.
+#[derive(Clone, Copy)]
+pub struct Told {
+    pub number: usize,
+    pub place: usize,
+}
+
+impl Told {
+    /// Against what was answered.
+    pub fn found(self, number: usize, place: usize) -> Result<(), Difference>
+        ensures { result ≡ told_found self number place }
+    {
+        unless(self.number == number, Difference::Number).and(unless(
+            self.place == place,
+            Difference::Place,
+        ))
+    }
+
+    /// Against a refusal.
+    pub fn refused(self, refused: Refused) -> Result<(), Difference>
+        ensures { result ≡ told_found self (number_of refused.reason) refused.place }
+    {
+        self.found(usize::from(refused.number()), refused.place)
+    }
 }
 
 /// Some bytes against those that come next with their number before them.

@@ -9,11 +9,11 @@ use std::rt::Files;
 /// How many bytes the answers of a group may have.
 pub const ROOM: usize = 2097152;
 
-/// Room for so many bytes. A caller knows no more of it than its length: what stands in so many places is long to prove from.
-pub fn room<const N: usize>() -> [u8; N]
+/// So many of one value. A caller knows no more of them than how many they are: what stands in so many places is long to prove from.
+pub fn filled<T: Copy, const N: usize>(value: T) -> [T; N]
     ensures { N ≡ length result }
 {
-    [0; N]
+    [value; N]
 }
 
 /// Reads a group's file; how many bytes it has, and 0 where it is missing or has no room.

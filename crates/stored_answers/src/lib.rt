@@ -8,4 +8,5 @@ pub mod compare;
 pub mod difference;
 pub mod group;
 pub mod numbers;
+pub mod parts;
 pub mod report;

@@ -44,6 +44,8 @@ impl<'a> Reader<'a> {
         usize::from(value)
     }
 
+    // kept: three lengths, each as two halves of the one before. One function over a const number of bytes would be a loop, whose sum has
+    // a power of 256 as its bound.
     /// Two bytes.
     #[tactic(auto, using(crate::proofs::Places::onward_twice), unfolding(crate::specs::Numbers::short))]
     pub fn short(&mut self) -> usize

@@ -1,6 +1,8 @@
 // Request 2, the numbers: figures of files, their sums, refusal 14, and wrapped over given as a reduced fraction.
 #![tactic(auto)]
 
+ghost use Rattle.std.specs.Prelude.{◌≡◌, [], ◌∷◌};
+
 pub mod lowest;
 pub mod sums;
 
@@ -15,6 +17,23 @@ pub struct Figures {
     pub wrapped: usize,
     pub placed: usize,
     pub left: usize,
+}
+
+impl Figures {
+    /// The seven, in this order.
+    pub fn in_order(self) -> [usize; 7]
+        ensures { result ≡ self.bytes ∷ self.newlines ∷ self.column ∷ self.given ∷ self.wrapped ∷ self.placed ∷ self.left ∷ [] }
+    {
+        [
+            self.bytes,
+            self.newlines,
+            self.column,
+            self.given,
+            self.wrapped,
+            self.placed,
+            self.left,
+        ]
+    }
 }
 
 /// What the files counted so far give: how many there are, and their figures together.

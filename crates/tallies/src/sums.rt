@@ -23,9 +23,7 @@ fn one_is_over(numbers: &[usize]) -> bool
 fn bounds_fit(f: Figures) -> bool
     ensures { result ≡ not (any (bound_tests f)) }
 {
-    !one_is_over(&[
-        f.bytes, f.newlines, f.column, f.given, f.wrapped, f.placed, f.left,
-    ])
+    !one_is_over(&f.in_order())
 }
 
 /// Whether 14 lets the tallies pass: a file more may be counted, each sum is within the bound, no more groups are wrapped than given.

@@ -44,7 +44,8 @@ pub at_decoded : (s : List ℕ) (at n : ℕ) (d : Option Char) → n ≡ sequenc
 unfolding char_at
 at_decoded s at n d e f = f ∙ ap (decoded s at) e
 
-pub before_decoded : (s : List ℕ) (from to n : ℕ) (d : Option Char) → n ≡ ending s from to → d ≡ decoded s (to - n) n → d ≡ char_before s from to
+pub before_decoded : (s : List ℕ) (from to n : ℕ) (d : Option Char) → n ≡ ending s from to → d ≡ decoded s (to - n) n
+    → d ≡ char_before s from to
 unfolding char_before
 before_decoded s from to n d e f = f ∙ ap (λ k. decoded s (to - k) k) e
 
@@ -94,7 +95,8 @@ ending_ends s from to = go (ends s from to 1) (ends s from to 2) (ends s from to
     go false false false false p q r u h = absurd (omega arith)
 
 -- the sequence before `to` starts at `from` or after it, and is the one that starts there
-pub ending_fits : (s : List ℕ) (from to : ℕ) → 0 < ending s from to → (from + ending s from to ≤ to) × (sequence s (to - ending s from to) ≡ ending s from to)
+pub ending_fits : (s : List ℕ) (from to : ℕ) → 0 < ending s from to
+    → (from + ending s from to ≤ to) × (sequence s (to - ending s from to) ≡ ending s from to)
 ending_fits s from to h = ends_fits s from to (ending s from to) (ending_ends s from to h)
 
 -- nothing ends in an empty or reversed range

@@ -38,7 +38,8 @@ unfolding newline_places
 places_few zero s at = omega arith
 places_few (suc n) s at = go (eqb (get_or s at 0) 0x0A) (places_few n s (at + 1))
   where
-    go : (t : Bool) → length (newline_places n s (at + 1)) ≤ n → length (cond t (at ∷ newline_places n s (at + 1)) (newline_places n s (at + 1))) ≤ suc n
+    go : (t : Bool) → length (newline_places n s (at + 1)) ≤ n
+        → length (cond t (at ∷ newline_places n s (at + 1)) (newline_places n s (at + 1))) ≤ suc n
     go true h = omega arith
     go false h = omega arith
 

@@ -27,7 +27,8 @@ scalar_same : (s t : List ℕ) (i j n : ℕ) → 0 < n → ((k : ℕ) → k < n 
 unfolding scalar
 scalar_same s t i j n h f = go n h f (rw (add-zero i, add-zero j) at (f 0 h))
   where
-    go : (n : ℕ) → 0 < n → ((k : ℕ) → k < n → get_or s (i + k) 0 ≡ get_or t (j + k) 0) → get_or s i 0 ≡ get_or t j 0 → scalar s i n ≡ scalar t j n
+    go : (n : ℕ) → 0 < n → ((k : ℕ) → k < n → get_or s (i + k) 0 ≡ get_or t (j + k) 0) → get_or s i 0 ≡ get_or t j 0
+        → scalar s i n ≡ scalar t j n
     go zero h f e = absurd (omega arith)
     go (suc zero) h f e = e
     go (suc (suc zero)) h f e = rw (e, f 1 (omega arith))

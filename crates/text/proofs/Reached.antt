@@ -21,12 +21,14 @@ pub data Reach (s : List ℕ) : ℕ → Type 0 where
   on : {at : ℕ} → Reach s at → 0 < sequence s at → Reach s (at + sequence s at)
 
 -- what holds at a place and goes on from sequence to sequence holds at the end of a run
-pub run_keeps : (P : ℕ → Type 0) (s : List ℕ) → ((i : ℕ) → 0 < sequence s i → P i → P (i + sequence s i)) → (n at : ℕ) → P at → P (run n s at)
+pub run_keeps : (P : ℕ → Type 0) (s : List ℕ) → ((i : ℕ) → 0 < sequence s i → P i → P (i + sequence s i)) → (n at : ℕ) → P at
+    → P (run n s at)
 unfolding run
 run_keeps P s more zero at h = h
 run_keeps P s more (suc n) at h = go (run_keeps P s more n (at + sequence s at)) (eqb (sequence s at) 0) refl
   where
-    go : (P (at + sequence s at) → P (run n s (at + sequence s at))) → (t : Bool) → eqb (sequence s at) 0 ≡ t → P (cond t at (run n s (at + sequence s at)))
+    go : (P (at + sequence s at) → P (run n s (at + sequence s at))) → (t : Bool) → eqb (sequence s at) 0 ≡ t
+        → P (cond t at (run n s (at + sequence s at)))
     go rest true e = h
     go rest false e = rest (more at (omega (arith, eqb-false (sequence s at) 0 e)) h)
 
@@ -81,7 +83,8 @@ module _ (s : List ℕ) (e : well_formed s ≡ true) (at : ℕ) (b : boundary s 
   boundary_reached zero i r h k = let same : i ≡ at = omega arith in rw same at r
   boundary_reached (suc n) i r h k = go (boundary_reached n (i + sequence s i)) (ltb i at) refl
     where
-      go : (Reach s (i + sequence s i) → i + sequence s i ≤ at → at ≤ i + sequence s i + n → Reach s at) → (t : Bool) → ltb i at ≡ t → Reach s at
+      go : (Reach s (i + sequence s i) → i + sequence s i ≤ at → at ≤ i + sequence s i + n → Reach s at) → (t : Bool) → ltb i at ≡ t
+          → Reach s at
       go more true q =
           let before = ltb-true i at q in
           let some = reached_starts s i e r (omega (arith, boundary_inside s at b)) in

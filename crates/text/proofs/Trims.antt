@@ -62,7 +62,8 @@ trim_range s from to e =
     range_is s from (trim_end s from to) after (range_start s from to e) (trim_boundary s from to (range_end s from to e))
 
 -- with turns enough, trimming stops only where no white space ends
-left_by : (n : ℕ) (s : List ℕ) (from to : ℕ) → to ≤ from + n → (c : Char) → char_before s from (trim n s from to) ≡ Some c → is_white c.code ≡ false
+left_by : (n : ℕ) (s : List ℕ) (from to : ℕ) → to ≤ from + n → (c : Char) → char_before s from (trim n s from to) ≡ Some c
+    → is_white c.code ≡ false
 unfolding trim
 left_by zero s from to h c e = let z : ◌≡◌ {A = ℕ} 0 1 = cc (before_empty s from to (omega arith)) in absurd (omega arith)
 left_by (suc n) s from to h c e = go (left_by n s from) (char_before s from to) refl e

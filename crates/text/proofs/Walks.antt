@@ -45,7 +45,8 @@ unfolding trim
 stop_at_nothing zero s from to e = refl
 stop_at_nothing (suc m) s from to e = rw (e, trim)
 
-stop_at_text : (m : ℕ) (s : List ℕ) (from to : ℕ) (c : Char) → char_before s from to ≡ Some c → is_white c.code ≡ false → trim m s from to ≡ to
+stop_at_text : (m : ℕ) (s : List ℕ) (from to : ℕ) (c : Char) → char_before s from to ≡ Some c → is_white c.code ≡ false
+    → trim m s from to ≡ to
 unfolding trim
 stop_at_text zero s from to c e w = refl
 stop_at_text (suc m) s from to c e w = rw (e, trim) (rw w)
@@ -116,7 +117,8 @@ pub seek_start : (s : List ℕ) (at : ℕ) → Seeking s at at
 unfolding something
 seek_start s at = record { turns = length s; enough = omega arith; same = refl }
 
-seek_on : (m : ℕ) (s : List ℕ) (at : ℕ) (c : Char) → char_at s at ≡ Some c → is_passed c.code ≡ true → seek (suc m) s at ≡ seek m s (at + c.bytes)
+seek_on : (m : ℕ) (s : List ℕ) (at : ℕ) (c : Char) → char_at s at ≡ Some c → is_passed c.code ≡ true
+    → seek (suc m) s at ≡ seek m s (at + c.bytes)
 unfolding seek
 seek_on m s at c e w = rw (e, seek) (rw w)
 

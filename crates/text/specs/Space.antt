@@ -1,5 +1,6 @@
 -- White_Space, trimming at the end, and the search of `pop_trailing_comment`.
-use Rattle.std.specs.Prelude.{ℕ, zero, suc, ◌+◌, ◌-◌, List, [], ◌∷◌, Bool, false, cond, not, ◌&&◌, ◌||◌, length, eqb, Option, None, Some}
+use Rattle.std.specs.Prelude.{ℕ, zero, suc, ◌+◌, ◌-◌, List, [], ◌∷◌, Bool, false, cond, not, ◌&&◌, ◌||◌, length, eqb, Option}
+use Rattle.std.specs.Prelude.{None, Some}
 use Rattle.text.specs.Utf8.{within, char_at, char_before}
 
 -- first and last code point of a range

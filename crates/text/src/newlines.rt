@@ -35,7 +35,8 @@ pub fn count_newlines(s: &[u8], from: usize, to: usize) -> Newlines
     }
 }
 
-// kept: the place is one in the text, so that a slice of the range would need to be told where it starts.
+// kept: one pass finds both. By `filter(..).count()` and `rposition` there are two, and in a slice of the range the place would count from the
+// range's start.
 fn newlines_between(s: &[u8], from: usize, to: usize) -> Newlines
     requires { (from ≤ to) × (to ≤ length s.now) }
     ensures { result ≡ counted to (newline_places (to - from) s.now from) }

@@ -19,7 +19,7 @@ pub fn is_whitespace(c: u32) -> bool
 }
 
 // The end of the range from `from` to `to` without the white space at its end.
-// kept: what it promises is of every range, and one that is reversed or goes past the text is no slice; what is one is a slice from here on.
+// kept: a text and two numbers: the promise covers reversed ranges and ranges past the text, which no slice is; from `get` on it is a slice.
 #[tactic(auto, using(crate::proofs::Walks::left_smaller, crate::proofs::Characters::before_inside))]
 pub fn trim_end(s: &[u8], from: usize, to: usize) -> usize
     ensures { result ≡ trim_end s.now from to }
@@ -27,7 +27,7 @@ pub fn trim_end(s: &[u8], from: usize, to: usize) -> usize
     let Some(mut text) = s.get(from..to) else {
         return to;
     };
-    // kept: the end comes down by as many bytes as the last character has, which only the character tells.
+    // kept: as a loop: the last character tells how much of the text is left. An iterator from the end would have this loop as its one user.
     while let Some(last) = last_char(text) {
         if !is_whitespace(last.code) {
             break;
@@ -50,7 +50,7 @@ pub fn find_something(s: &[u8], at: usize) -> Option<usize>
     ensures { result ≡ something s.now at }
 {
     let mut here = at;
-    // kept: where the next character starts is known only once this one is read.
+    // kept: as a loop: a character tells where the next starts. An iterator of characters with their places would have this loop as its one user.
     while let Some(c) = char_at(s, here) {
         if !is_passed(c.code) {
             return Some(here);

@@ -64,6 +64,8 @@ fn sequence(s: &[u8], at: usize) -> Option<usize>
 }
 
 // How many of the sixteen bytes from `at` on are 0x80 or above.
+// kept: by the index, a sum of bytes. By `filter(..).count()`, which counts in 64 bits, layout of small saves takes 4 parts in a hundred longer,
+// of a large tariff 2, and no class may get slower.
 #[tactic(auto, using(crate::proofs::Runs::highs_more), unfolding(crate::specs::Utf8::highs))]
 fn count_high(s: &[u8], at: usize) -> u8
     requires { at + 16 ≤ length s.now }
@@ -169,6 +171,7 @@ fn is_ending(text: &[u8], k: usize) -> bool
 fn ending(text: &[u8]) -> Option<usize>
     ensures { result ≡ some_bytes (ending text.now 0 (length text.now)) }
 {
+    // kept: tried as `(1..5).find(..)`, and the proof didn't close: the loop's invariant says which lengths fail.
     for k in 1..5 {
         if is_ending(text, k) {
             return Some(k);

@@ -168,7 +168,8 @@ pub record Counted (l : List ℕ) (n at : ℕ) (cs : List Span) (end : ℕ) : Ty
   pub few : length cs ≤ n
   pub within : end ≤ length l
 
-counted_none : (l : List ℕ) (n at : ℕ) (cs : List Span) (end : ℕ) → at ≤ length l → stands l at 1 1 ≡ false → comments_from l n at ≡ got cs end
+counted_none : (l : List ℕ) (n at : ℕ) (cs : List Span) (end : ℕ) → at ≤ length l → stands l at 1 1 ≡ false
+    → comments_from l n at ≡ got cs end
     → Counted l n at cs end
 counted_none l n at cs end h s e =
     let w : got [] at ≡ got cs end = sym (from_none l at n s) ∙ e in
@@ -177,7 +178,8 @@ counted_none l n at cs end h s e =
     let len : length cs ≡ 0 = ap length (sym none) in
     record { ends = omega arith; few = omega arith; within = omega arith }
 
-pub comments_got : (l : List ℕ) (n at : ℕ) (cs : List Span) (end : ℕ) → at ≤ length l → comments_from l n at ≡ got cs end → Counted l n at cs end
+pub comments_got : (l : List ℕ) (n at : ℕ) (cs : List Span) (end : ℕ) → at ≤ length l → comments_from l n at ≡ got cs end
+    → Counted l n at cs end
 comments_got l zero at cs end h e = go (stands l at 1 1) refl
   where
     go : (t : Bool) → stands l at 1 1 ≡ t → Counted l zero at cs end
@@ -185,7 +187,8 @@ comments_got l zero at cs end h e = go (stands l at 1 1) refl
     go true s = never (sym (from_many l at zero refl s) ∙ e)
 comments_got l (suc m) at cs end h e = go (comments_got l m (at + 9)) (stands l at 1 1) refl
   where
-    rest : ((xs : List Span) (q : ℕ) → at + 9 ≤ length l → comments_from l m (at + 9) ≡ got xs q → Counted l m (at + 9) xs q) → at + 9 ≤ length l
+    rest : ((xs : List Span) (q : ℕ) → at + 9 ≤ length l → comments_from l m (at + 9) ≡ got xs q → Counted l m (at + 9) xs q)
+        → at + 9 ≤ length l
         → (r : Read (List Span)) → comments_from l m (at + 9) ≡ r → bind r (λ xs q. got (pair_there l at ∷ xs) q) ≡ got cs end
         → Counted l (suc m) at cs end
     rest later f (bad k p) o q = never q

@@ -44,7 +44,12 @@ steady (gone o' more) o e = let z : true ≡ false = sym o' ∙ o in let w : ◌
 steady (here {row = row} {x = y} {xs = ys} z x more) o e =
     let a = record_size x in
     let b = steady more (ap (λ (r : ℕ). is_optional (place r)) e ∙ o) (ap after e) in
-    rw (length-append (written y) (writtens ys), list_append (tree_steps y) (child_steps ys), length-append (list_bytes (tree_steps y)) (list_bytes (child_steps ys)))
+    rw (
+      length-append (written y) (writtens ys),
+      list_append (tree_steps y) (child_steps ys),
+      length-append (list_bytes (tree_steps y))
+          (list_bytes (child_steps ys)),
+    )
     (omega arith)
 
 once : {left row : ℕ} {xs : Plains} → FitsRow left row xs → is_optional (place (after row)) ≡ false → after (after row) ≡ after row
@@ -55,7 +60,12 @@ once (gone o' more) o e = let b = steady more o e in omega arith
 once (here {row = row} {x = y} {xs = ys} z x more) o e =
     let a = record_size x in
     let b = steady more o e in
-    rw (length-append (written y) (writtens ys), list_append (tree_steps y) (child_steps ys), length-append (list_bytes (tree_steps y)) (list_bytes (child_steps ys)))
+    rw (
+      length-append (written y) (writtens ys),
+      list_append (tree_steps y) (child_steps ys),
+      length-append (list_bytes (tree_steps y))
+          (list_bytes (child_steps ys)),
+    )
     (omega arith)
 
 root_size : {left p : ℕ} {x : Plain} → Fits left p x → p ≡ TREE → length (written x) + 7 ≤ 2 * length (list_bytes (tree_steps x))
@@ -130,7 +140,8 @@ module _ (l : List ℕ) where
     pub image : image_due l ≡ image_of (record { comments = comments; tree = tree })
     pub size : bytes ≡ 7 + 8 * length comments + length (written tree)
 
-  parts_by : (at bytes : ℕ) (r : Read (List Span)) → comments_from l MAX_COMMENTS 0 ≡ r → measures at bytes ≡ measured (contents_from l) → Parts at bytes
+  parts_by : (at bytes : ℕ) (r : Read (List Span)) → comments_from l MAX_COMMENTS 0 ≡ r → measures at bytes ≡ measured (contents_from l)
+      → Parts at bytes
   parts_by at bytes (bad n p) e h =
       let w : measures at bytes ≡ refused (record { number = n; place = p }) = h ∙ ap measured (contents_pairs n p e) in
       let z : ◌≡◌ {A = ℕ} 0 1 = cc in
@@ -146,7 +157,8 @@ module _ (l : List ℕ) where
         where
           done : (t : Bool) → ltb end (length l) ≡ t → Parts at bytes
           done true b =
-              let w : measures at bytes ≡ refused (record { number = 16; place = end }) = h ∙ ap measured (contents_spare cs a x end e f (omega (arith, ltb-true end (length l) b))) in
+              let w : measures at bytes ≡ refused (record { number = 16; place = end }) =
+              h ∙ ap measured (contents_spare cs a x end e f (omega (arith, ltb-true end (length l) b))) in
               let z : ◌≡◌ {A = ℕ} 0 1 = cc in
               absurd (omega arith)
           done false b =
@@ -206,7 +218,8 @@ lent_part a xs ys ws h e =
     let none : drop (length xs - a) (drop a xs) ≡ [] = drop_of_length-le (drop a xs) {i = length xs - a} (omega arith) in
     ap₂ (λ (u v : List ℕ). take a xs ++ (u ++ v)) (e ∙ ap (λ (u : List ℕ). sets u 0 ws) all) none
     ∙ ap (λ (u : List ℕ). take a xs ++ u) (append-nil (sets (drop a xs) 0 ws))
-    ∙ sym (ap (λ (u : List ℕ). sets u a ws) (sym (take-append-drop a xs)) ∙ sets_part (take a xs) (drop a xs) ws 0 a (omega (arith, length-take-le a xs h)))
+    ∙ sym (ap (λ (u : List ℕ). sets u a ws) (sym (take-append-drop a xs))
+    ∙ sets_part (take a xs) (drop a xs) ws 0 a (omega (arith, length-take-le a xs h)))
 
 pub whole_put : (l : List ℕ) (at bytes : ℕ) (k : Parts l at bytes) (out o₁ o₂ o₃ o₄ o₅ : List ℕ) → bytes ≤ 1048581 → o₁ ≡ set out 0 1
     → o₂ ≡ sets o₁ 1 (bytes4 ((bytes - 5) % 4294967296)) → o₃ ≡ sets o₂ 5 (bytes2 (at / 9)) → o₄ ≡ sets o₃ 7 (pair_bytes k.comments)

@@ -7,7 +7,8 @@ use Prim.Native.Nat.{ℕ, zero, suc, ◌+◌, ◌-◌, ◌*◌, ◌≤◌, ◌<�
 use native.Mathlib.Omega.{arith}
 use lib.Dec.{ltb, eqb}
 use lib.ListN.{length, length-append}
-use lib.Seq.{sets}
+use lib.Seq.{sets, take-append_seam, drop-append_seam}
+use Rattle.std.specs.Prelude.{take, drop, min}
 use borrow.Author.Tests.{le-leb, lt-ltb, le-ltb, ltb-false}
 use Rattle.refusals.specs.Refusals.{Refusal}
 use Rattle.refusals.specs.Answers.{refused, accepted}
@@ -17,7 +18,7 @@ use Rattle.image.specs.Read.{Read, got, bad, bind, head_at, stop_at, kind_at, Tr
 use Rattle.image.specs.Read.{child_at, record_at, children_at, tree_at, read_image, read_all, source_fits, document_of, outcome}
 use Rattle.image.specs.declared.Document.{Document}
 use Rattle.image.specs.Write.{bytes4, plain, plains}
-use Rattle.image.proofs.Exact.{Small}
+use Rattle.image.proofs.Exact.{Small, join, part_length}
 use Rattle.image.proofs.Shapes.{opened_order, skips_within, text_payload}
 use Rattle.image.proofs.Inside.{inside, none_deep}
 use Rattle.image.proofs.Accepted.{accepted as input}
@@ -77,7 +78,8 @@ rows_ahead b first stop start out₀ at pos out q o ts a h p =
     let w = p t (stop_at b at) k.3 in
     let is : row_bytes b a.rest ≡ tree_bytes b t ++ row_bytes b us =
     ap (row_bytes b) k.2 ∙ list_append (tree_steps (plain b t)) (child_steps (plains b us)) in
-    let len : length (row_bytes b a.rest) ≡ length (tree_bytes b t) + length (row_bytes b us) = ap length is ∙ length-append (tree_bytes b t) (row_bytes b us) in
+    let len : length (row_bytes b a.rest) ≡ length (tree_bytes b t) + length (row_bytes b us) =
+    ap length is ∙ length-append (tree_bytes b t) (row_bytes b us) in
     record {
       rest = us;
       stands = k.4;
@@ -89,7 +91,8 @@ rows_ahead b first stop start out₀ at pos out q o ts a h p =
           ∙ a.output;
     }
 
-pub rows_one : (b : List ℕ) (first stop start : ℕ) (out₀ : List ℕ) (at pos : ℕ) (out : List ℕ) (n q : ℕ) (o : List ℕ) → RowThere b first stop start
+pub rows_one : (b : List ℕ) (first stop start : ℕ) (out₀ : List ℕ) (at pos : ℕ) (out : List ℕ) (n q : ℕ) (o : List ℕ)
+    → RowThere b first stop start
     → Rows b first stop start out₀ at pos out → at < stop → n ≡ stop_at b at → PutsTree b at pos out q o
     → Rows b first stop start out₀ n q o
 rows_one b first stop start out₀ at pos out n q o r g h e p =
@@ -104,7 +107,8 @@ rows_one b first stop start out₀ at pos out n q o r g h e p =
       ahead = λ ts s. rows_ahead b first stop start out₀ at pos out q o ts (g.ahead ts s) h p;
     })
 
-pub rows_end : (b : List ℕ) (first stop start : ℕ) (out₀ : List ℕ) (at pos : ℕ) (out : List ℕ) → Rows b first stop start out₀ at pos out → stop ≤ at
+pub rows_end : (b : List ℕ) (first stop start : ℕ) (out₀ : List ℕ) (at pos : ℕ) (out : List ℕ)
+    → Rows b first stop start out₀ at pos out → stop ≤ at
     → PutsRow b first stop start out₀ pos out
 unfolding Row plain child_steps
 rows_end b first stop start out₀ at pos out g h ts s = go a.rest a.stands a.place a.output
@@ -139,7 +143,8 @@ tree_room b at pos t z =
 abbrev payload_of : List ℕ → ℕ → List ℕ
 payload_of b at = list_bytes (payload_steps (kind_at b at) (part (at + 13) (head_at b at).first b))
 
-pub row_there : (b : List ℕ) (at pos n f inner : ℕ) (o u : List ℕ) → TreeThere b at pos → ¬ (be32 b at ≡ 0) → n ≡ be32 b at → f ≡ (head_at b at).first
+pub row_there : (b : List ℕ) (at pos n f inner : ℕ) (o u : List ℕ) → TreeThere b at pos → ¬ (be32 b at ≡ 0) → n ≡ be32 b at
+    → f ≡ (head_at b at).first
     → Puts (payload_of b at) (pos + 10) o inner u → RowThere b f (at + 4 + n) inner
 row_there b at pos n f inner o u t z m e p =
     let h = tree_head b at pos t z in
@@ -206,7 +211,8 @@ pairs_one b count out₀ i at pos out o₁ o₂ small fits g h e₁ e₂ =
     let is : pairs_bytes b (count - i) at ≡ w ++ pairs_bytes b n (at + 8) = ap (λ (k : ℕ). pairs_bytes b k at) m ∙ pair_bytes b n at in
     let len₂ : length (pairs_bytes b (count - i) at) ≡ 9 + length (pairs_bytes b n (at + 8)) = ap length is ∙ omega arith in
     let put : o₂ ≡ sets out pos w =
-    e₂ ∙ ap₂ (λ (u v : List ℕ). sets u (pos + 1) v) e₁ four ∙ sets_behind (1 ∷ []) (bytes4 (be32 b at) ++ bytes4 (be32 b (at + 4))) out pos (pos + 1) refl in
+    e₂ ∙ ap₂ (λ (u v : List ℕ). sets u (pos + 1) v) e₁ four
+    ∙ sets_behind (1 ∷ []) (bytes4 (be32 b at) ++ bytes4 (be32 b (at + 4))) out pos (pos + 1) refl in
     record {
       some = omega arith;
       place = omega (arith, g.place);
@@ -218,6 +224,36 @@ pairs_one b count out₀ i at pos out o₁ o₂ small fits g h e₁ e₂ =
           ∙ ap (sets out pos) (sym is)
           ∙ g.output;
     }
+
+-- what a piece of eight bytes is, and what is left
+pub first_pair : (b : List ℕ) (at stop : ℕ) (x y : List ℕ) → at + 8 ≤ stop → stop ≤ length b → part at stop b ≡ x ++ y → length x ≡ 8
+    → (x ≡ part at (at + 8) b) × (y ≡ part (at + 8) stop b)
+first_pair b at stop x y more fits e eight =
+    let p = part at (at + 8) b in
+    let q = part (at + 8) stop b in
+    let len : length p ≡ 8 = part_length b at (at + 8) (omega arith) (omega arith) ∙ omega arith in
+    let same : x ++ y ≡ p ++ q = sym e ∙ join b at (at + 8) stop (omega arith) more in
+    let both : length x ≡ length p = eight ∙ sym len in (
+      sym (take-append_seam x y) ∙ ap₂ (λ (n : ℕ) (u : List ℕ). take n u) both same ∙ take-append_seam p q,
+      sym (drop-append_seam x y) ∙ ap₂ (λ (n : ℕ) (u : List ℕ). drop n u) both same ∙ drop-append_seam p q,
+    )
+
+-- the pieces that are left after `done` of `count`: the first of them, and the others
+pub next_pair : (b : List ℕ) (count done size : ℕ) (r x y : List ℕ) → 7 + 8 * count ≤ length b → done ≤ count → size ≡ 8
+    → r ≡ part (7 + 8 * done) (7 + 8 * count) b → r ≡ x ++ y → length x ≡ min size (length r) → 0 < length r
+    → (done < count) × (x ≡ part (7 + 8 * done) (7 + 8 * done + 8) b) × (y ≡ part (7 + 8 * (done + 1)) (7 + 8 * count) b) × (length x ≡ 8)
+next_pair b count done size r x y fits some s e split n more =
+    let len : length r ≡ 8 * count - 8 * done = ap length e ∙ part_length b (7 + 8 * done) (7 + 8 * count) (omega arith) fits ∙ omega arith in
+    let eight : length x ≡ 8 = n ∙ ap₂ min s len ∙ omega (arith, len) in
+    let next : 7 + 8 * done + 8 ≡ 7 + 8 * (done + 1) = omega arith in
+    let w = first_pair b (7 + 8 * done) (7 + 8 * count) x y (omega (arith, len)) fits (sym e ∙ split) eight in
+    (omega (arith, len), w.0, w.1 ∙ ap (λ (k : ℕ). part k (7 + 8 * count) b) next, eight)
+
+pub no_pair : (b : List ℕ) (count done : ℕ) (r : List ℕ) → 7 + 8 * count ≤ length b → done ≤ count
+    → r ≡ part (7 + 8 * done) (7 + 8 * count) b → length r ≡ 0 → count ≤ done
+no_pair b count done r fits some e none =
+    let len : length r ≡ 8 * count - 8 * done = ap length e ∙ part_length b (7 + 8 * done) (7 + 8 * count) (omega arith) fits ∙ omega arith in
+    omega (arith, len)
 
 pub pairs_end : (b : List ℕ) (count : ℕ) (out₀ : List ℕ) (i at pos : ℕ) (out : List ℕ) → Pairs b count out₀ i at pos out → count ≤ i
     → Puts (pairs_bytes b count 7) 0 out₀ pos out
@@ -239,7 +275,8 @@ module _ (s b : List ℕ) where
     pub stands : Stands b t at q
     pub within : q ≤ stop
 
-  child_stands : (left : ℕ) → ((p at end : ℕ) (t : Tree) (q : ℕ) → end ≤ length b → record_at s b 2 left p at end ≡ got t q → Child t at q end)
+  child_stands : (left : ℕ)
+      → ((p at end : ℕ) (t : Tree) (q : ℕ) → end ≤ length b → record_at s b 2 left p at end ≡ got t q → Child t at q end)
       → (p at stop : ℕ) (t : Tree) (q : ℕ) → stop ≤ length b → child_at s b 2 left p at stop ≡ got t q → Child t at q stop
   unfolding Stands
   child_stands left one p at stop t q h e = go (skips b p at stop) refl e
@@ -261,7 +298,8 @@ module _ (s b : List ℕ) where
   row_stands left one (suc n) row at stop ts e h k r =
       go (λ at us x. row_stands left one n (after row) at stop us x) (ltb at stop) refl r
     where
-      go : ((at : ℕ) (us : Trees) (x : ℕ) → at ≤ stop → stop ≤ length b → children_at (child_at s b 2 left) n (after row) at stop ≡ got us x → Row b us at stop)
+      go : ((at : ℕ) (us : Trees) (x : ℕ) → at ≤ stop → stop ≤ length b
+          → children_at (child_at s b 2 left) n (after row) at stop ≡ got us x → Row b us at stop)
           → (u : Bool) → ltb at stop ≡ u
           → cond u
           (cond (eqb row 0) (bad 4 at)

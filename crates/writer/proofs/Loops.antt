@@ -18,7 +18,8 @@ use Rattle.writer.proofs.Bounds.{behind}
 pub record Going (one : ℕ → ℕ → Read Plain) (l : List ℕ) (whole : Ran) (row at pos : ℕ) (out : List ℕ) : Type 0 where
   pub turns : ℕ
   pub enough : length l - at ≤ turns
-  pub due : AtChildren l row at pos
+  pub inside : at ≤ length l
+  pub due : AtChildren row at pos
   pub same : whole ≡ put_by writtens pos out (children_from one l (suc turns) row at)
 
 module _ (l : List ℕ) (left : ℕ) (whole : Ran) (row at pos : ℕ) (out : List ℕ) (g : Going (record_from l left) l whole row at pos out) where
@@ -40,15 +41,16 @@ module _ (l : List ℕ) (left : ℕ) (whole : Ran) (row at pos : ℕ) (out : Lis
           let xw : w.0 ≡ k.what = cc k.reads in
           let b = behind l left row at pos g.due w.0 e w.1 in
           let same : pos + length (written w.0) ≡ q = ap (λ (x : Plain). pos + length (written x)) xw ∙ sym k.place in
-          (b.0, (b.1.inside, turn n le s b.0 b.1.inside (rw same at b.1)))
+          (b.0, (b.1, turn n le s b.0 b.1 (rw same at b.2)))
         where
           turn : (n : ℕ) → length l - at ≤ n → whole ≡ put_by writtens pos out (children_from (record_from l left) l (suc n) row at)
-              → at < e → e ≤ length l → AtChildren l (after row) e q → Going (record_from l left) l whole (after row) e q o
+              → at < e → e ≤ length l → AtChildren (after row) e q → Going (record_from l left) l whole (after row) e q o
           turn zero le s a b d = absurd (omega arith)
           turn (suc m) le s a b d =
               record {
                 turns = m;
                 enough = omega arith;
+                inside = b;
                 due = d;
                 same = s ∙ turn_next (record_from l left) l (suc m) row at pos out e q o h;
               }

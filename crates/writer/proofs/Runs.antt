@@ -115,7 +115,8 @@ was_child pos out (got (Some x) end) e q o h =
     (x, ap (got (Some x)) (sym s.at), record { what = x; reads = refl; place = s.place; output = s.output })
 was_child pos out (bad n p) e q o h = absurd (no_fault e q n p o h)
 
-pub was_closed : (pos : ℕ) (out : List ℕ) (r : Read (Option Plain)) (e : ℕ) (o : List ℕ) → closed e o ≡ child_by pos out r → (r ≡ got None e) × (o ≡ out)
+pub was_closed : (pos : ℕ) (out : List ℕ) (r : Read (Option Plain)) (e : ℕ) (o : List ℕ) → closed e o ≡ child_by pos out r
+    → (r ≡ got None e) × (o ≡ out)
 was_closed pos out (got None end) e o h = (cc, cc)
 was_closed pos out (got (Some x) end) e o h = absurd (no_close end (pos + length (written x)) e (sets out pos (written x)) o (sym h))
 was_closed pos out (bad n p) e o h = let z : ◌≡◌ {A = ℕ} 0 1 = cc in absurd (omega arith)
@@ -213,7 +214,8 @@ pub text_ill : (l : List ℕ) (at n : ℕ) → n ≡ be32 l (at + 3) → stands 
     → well_formed (part (at + 7) (at + 7 + n) l) ≡ false → bind (step_from l at) (text_by at) ≡ bad 16 at
 text_ill l at n e s w = rw (text_step_lem l at s, sym (ap (λ (j : ℕ). well_formed (part (at + 7) (at + 7 + j) l)) e) ∙ w)
 
-pub byte_high : (l : List ℕ) (at top x : ℕ) → x ≡ get_or l (at + 1) 0 → stands l at 4 2 ≡ true → top < x → bind (step_from l at) (byte_by at top) ≡ bad 16 at
+pub byte_high : (l : List ℕ) (at top x : ℕ) → x ≡ get_or l (at + 1) 0 → stands l at 4 2 ≡ true → top < x
+    → bind (step_from l at) (byte_by at top) ≡ bad 16 at
 byte_high l at top x e s h = rw (payload_step_lem l at s, lt-leb (get_or l (at + 1) 0) top (omega arith))
 
 -- the kinds without a payload
@@ -317,7 +319,8 @@ record_not l zero p at e = refl
 record_not l (suc d) p at e = rw e
 
 -- an absent child
-pub absent_held : (one : ℕ → ℕ → Read Plain) (l : List ℕ) (row at pos : ℕ) (out o : List ℕ) → stands l at 5 1 ≡ true → is_optional (place row) ≡ true
+pub absent_held : (one : ℕ → ℕ → Read Plain) (l : List ℕ) (row at pos : ℕ) (out o : List ℕ) → stands l at 5 1 ≡ true
+    → is_optional (place row) ≡ true
     → o ≡ sets out pos (bytes4 0) → up_to (at + 1) (pos + 4) o ≡ child_by pos out (child_from one l row at)
 unfolding written
 absent_held one l row at pos out o s e f =

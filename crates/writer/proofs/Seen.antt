@@ -73,7 +73,8 @@ cut l at j e h k = go (eqb k j) refl
     go false q = not_there l at k (bytes_of l at k) (λ w. eqb-false k j q (sym w ∙ e))
 
 module _ (l : List ℕ) (at : ℕ) where
-  one_of : (j : ℕ) (x : Step) (n : ℕ) → n ≡ bytes_of l at j → eqb (get_or l at 0) j ≡ true → (stands l at j n ≡ true → Seen l at (got x (at + n)))
+  one_of : (j : ℕ) (x : Step) (n : ℕ) → n ≡ bytes_of l at j → eqb (get_or l at 0) j ≡ true
+      → (stands l at j n ≡ true → Seen l at (got x (at + n)))
       → Seen l at (whole l at n x)
   one_of j x n m e f =
       either (Seen l at) (leb (at + n) (length l)) (got x (at + n)) (bad 16 at)

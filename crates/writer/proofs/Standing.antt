@@ -59,7 +59,8 @@ payload_bytes b at w = go (kind_at b at) refl
     stop = stop_at b at
 
     go : (k : ℕ) → kind_at b at ≡ k
-        → length (list_bytes (payload_steps k (part (at + 13) (first_child k (at + 13) (stop_at b at)) b))) ≤ first_child k (at + 13) (stop_at b at) - (at + 13) + 5
+        → length (list_bytes (payload_steps k (part (at + 13) (first_child k (at + 13) (stop_at b at)) b))) ≤ first_child k (at + 13)
+        (stop_at b at) - (at + 13) + 5
     go k e = by (eqb k TEXT) refl (has_byte k) refl
       where
         by : (t : Bool) → eqb k TEXT ≡ t → (u : Bool) → has_byte k ≡ u
@@ -126,7 +127,8 @@ module _ (b : List ℕ) (at : ℕ) (small : Small b) (w : Whole b at) where
   abbrev payload : List ℕ
   payload = list_bytes (payload_steps (kind_at b at) (part (at + 13) (head_at b at).first b))
 
-  pub text_payload : (stop pos : ℕ) (out o₁ o₂ o₃ o₄ : List ℕ) → kind_at b at ≡ TEXT → stop ≡ stop_at b at → length b ≤ 1048581 → o₁ ≡ set out pos 3
+  pub text_payload : (stop pos : ℕ) (out o₁ o₂ o₃ o₄ : List ℕ) → kind_at b at ≡ TEXT → stop ≡ stop_at b at
+      → length b ≤ 1048581 → o₁ ≡ set out pos 3
       → o₂ ≡ sets o₁ (pos + 1) (part (at + 13) (at + 13 + 2) b) → o₃ ≡ sets o₂ (pos + 3) (bytes4 ((stop - (at + 13 + 2)) % 4294967296))
       → o₄ ≡ sets o₃ (pos + 7) (part (at + 13 + 2) stop b) → Puts payload pos out (pos + 7 + (stop - (at + 13 + 2))) o₄
   unfolding first_child
@@ -202,7 +204,8 @@ head_bytes b at small h =
     let k = rw far at (took_byte b (at + 4) (omega arith)) in
     took_is (took_join (took_join k (took_four b (at + 5) (at + 9) (omega arith) (omega arith))) (took_four b (at + 9) (at + 13) (omega arith) h)) small
 
-pub puts_record : (b : List ℕ) (at pos inner last : ℕ) (out o₁ o₂ o₃ o₄ o₅ : List ℕ) → Small b → ¬ (be32 b at ≡ 0) → o₁ ≡ set out pos 2
+pub puts_record : (b : List ℕ) (at pos inner last : ℕ) (out o₁ o₂ o₃ o₄ o₅ : List ℕ) → Small b → ¬ (be32 b at ≡ 0)
+    → o₁ ≡ set out pos 2
     → o₂ ≡ sets o₁ (pos + 1) (part (at + 4) (at + 13) b)
     → Puts (list_bytes (payload_steps (kind_at b at) (part (at + 13) (head_at b at).first b))) (pos + 10) o₂ inner o₃
     → PutsRow b (head_at b at).first (stop_at b at) inner o₃ last o₄ → o₅ ≡ set o₄ last 6 → PutsTree b at pos out (last + 1) o₅

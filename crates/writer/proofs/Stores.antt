@@ -3,7 +3,7 @@
 use mathlib.Core.Path.{◌≡◌, refl, sym, ap, ◌∙◌}
 use mathlib.Core.List.{List, [], ◌∷◌, ◌++◌, append_assoc}
 use mathlib.Core.Logic.{◌⊎◌, inl, inr}
-use Prim.Native.Nat.{ℕ, suc, min, ◌+◌, ◌-◌, ◌/◌, ◌%◌, ◌≤◌}
+use Prim.Native.Nat.{ℕ, suc, min, ◌+◌, ◌-◌, ◌/◌, ◌%◌, ◌≤◌, ◌<◌}
 use native.Mathlib.Omega.{arith}
 use lib.ListN.{length, set, take, drop, length-drop, take-append-drop}
 use mathlib.Core.Bool.{Bool, true, false}
@@ -12,7 +12,9 @@ use borrow.Author.Tests.{leb-true, leb-false}
 use borrow.Rule.Slice.PartMut.{put_mid}
 use lib.Seq.{sets, set_comm, set_out, sets-eq, drop-drop, length-sets, length-take-le}
 use Rattle.laws.proofs.Stores.{sets_append}
+use Rattle.std.specs.Int.{w16, w32, to_be_bytes}
 use Rattle.image.specs.Write.{bytes4}
+use Rattle.steps.specs.Steps.{bytes2}
 
 -- a store above the run
 set_above : (vs s : List ℕ) (i j v : ℕ) → j + length vs ≤ i → sets (set s i v) j vs ≡ set (sets s j vs) i v
@@ -61,7 +63,8 @@ sets_room vs s i n h e =
         go false w = let l = leb-false (s - i) v w in inl (omega arith)
 
 -- a part that is written over by one call, as far as there is room
-pub part_sets : (vs s : List ℕ) (i n : ℕ) → i ≤ length s → n ≡ min (length vs) (length s - i) → put_mid i (i + n - i) s (take n vs) ≡ sets s i vs
+pub part_sets : (vs s : List ℕ) (i n : ℕ) → i ≤ length s → n ≡ min (length vs) (length s - i)
+    → put_mid i (i + n - i) s (take n vs) ≡ sets s i vs
 part_sets vs s i n h e =
     let k : i + n - i ≡ n = omega arith in
     let long = length-take-le n vs (omega (arith, e)) in
@@ -71,11 +74,13 @@ part_sets vs s i n h e =
     ∙ sym (sets-eq (take n vs) s i (omega (arith, e, long)))
     ∙ sets_room vs s i n h e
 
--- the low four bytes of a number
-pub four_low : (n : ℕ) → bytes4 (n % 4294967296) ≡ (n / 16777216 % 256) ∷ (n / 65536 % 256) ∷ (n / 256 % 256) ∷ (n % 256) ∷ []
-four_low n =
-    let e₁ : n % 4294967296 / 16777216 ≡ n / 16777216 % 256 = omega arith in
-    let e₂ : n % 4294967296 / 65536 % 256 ≡ n / 65536 % 256 = omega arith in
-    let e₃ : n % 4294967296 / 256 % 256 ≡ n / 256 % 256 = omega arith in
-    let e₄ : n % 4294967296 % 256 ≡ n % 256 = omega arith in
-    cc
+-- the four bytes of a number, as std gives them
+pub four_bytes : (n : ℕ) → n < 4294967296 → to_be_bytes w32 n ≡ bytes4 n
+four_bytes n small =
+    let top : n / 16777216 % 256 ≡ n / 16777216 = omega arith in
+    ap (λ (b : ℕ). b ∷ (n / 65536 % 256) ∷ (n / 256 % 256) ∷ (n % 256) ∷ []) top
+
+pub two_bytes : (n : ℕ) → n < 65536 → to_be_bytes w16 n ≡ bytes2 n
+two_bytes n small =
+    let top : n / 256 % 256 ≡ n / 256 = omega arith in
+    ap (λ (b : ℕ). b ∷ (n % 256) ∷ []) top

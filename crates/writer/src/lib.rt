@@ -37,8 +37,7 @@ pub fn steps_of(source: &[u8], image: &[u8], out: &mut [u8]) -> Result<usize, Re
     ensures { Lists source.now image.now out.old result out.new }
 {
     let doc = image::check(source, image)?;
-    let mut none = [0u8; 1];
-    let bytes = list_image(image, doc.comments, doc.tree, &mut none);
+    let bytes = list_image(image, doc.comments, doc.tree, &mut []);
     if out.len() < bytes {
         return Err(Reason::ImageNeeds.at(bytes));
     }

@@ -4,6 +4,7 @@ ghost use Rattle.tree.specs.CommentList.{pairs_at};
 ghost use Rattle.image.specs.Bytes.{part};
 ghost use Rattle.image.specs.Read.{head_at, kind_at};
 ghost use Rattle.steps.specs.Steps.{comment_step, payload_steps, list_bytes};
+ghost use Rattle.writer.specs.Put.{Same};
 ghost use Rattle.writer.specs.Stands.{Puts, TreeThere, RowThere, HeadThere, ImageThere, PutsTree, PutsRow, PutsImage};
 
 use crate::output::Output;
@@ -18,7 +19,7 @@ fn list_payload(image: &[u8], at: usize, out: &mut Output) -> usize
     ensures first { result ≡ (head_at image.now at).first }
     ensures put { Puts (list_bytes (payload_steps (kind_at image.now at) (part (at + 13) (head_at image.now at).first image.now)))
         out.old.pos out.old.bytes.now out.new.pos out.new.bytes.now }
-    ensures same { out.new.bytes.ghost_name ≡ out.old.bytes.ghost_name }
+    ensures same { Same out.old out.new }
 {
     let first = at + HEAD;
     let Some(kind) = Kind::of(image[at + LENGTH]) else {
@@ -46,7 +47,7 @@ fn list_payload(image: &[u8], at: usize, out: &mut Output) -> usize
 fn list_tree(image: &[u8], at: usize, out: &mut Output)
     requires { TreeThere image.now at out.old.pos }
     ensures put { PutsTree image.now at out.old.pos out.old.bytes.now out.new.pos out.new.bytes.now }
-    ensures same { out.new.bytes.ghost_name ≡ out.old.bytes.ghost_name }
+    ensures same { Same out.old out.new }
 {
     let n = num32(image, at);
     if n == 0 {
@@ -65,10 +66,10 @@ fn list_tree(image: &[u8], at: usize, out: &mut Output)
 fn list_trees(image: &[u8], first: usize, stop: usize, out: &mut Output)
     requires { RowThere image.now first stop out.old.pos }
     ensures put { PutsRow image.now first stop out.old.pos out.old.bytes.now out.new.pos out.new.bytes.now }
-    ensures same { out.new.bytes.ghost_name ≡ out.old.bytes.ghost_name }
+    ensures same { Same out.old out.new }
 {
     let mut at = first;
-    // kept: as a loop: where a child ends is read from it, so that no range or iterator has the next place.
+    // kept: a loop: the iterator of records is a method of comments' `Parsed`, which this crate isn't above, and whose source no step needs.
     while at < stop {
         list_tree(image, at, out);
         at += LENGTH + num32(image, at);
@@ -81,12 +82,11 @@ fn list_comments(image: &[u8], count: usize, out: &mut Output)
     requires fresh { out.old.pos ≡ 0 }
     ensures put { Puts (list_bytes (map (λ x. comment_step x.start x.end) (pairs_at image.now count 7)))
         0 out.old.bytes.now out.new.pos out.new.bytes.now }
-    ensures same { out.new.bytes.ghost_name ≡ out.old.bytes.ghost_name }
+    ensures same { Same out.old out.new }
 {
-    for i in 0..count {
-        let at = PAIRS + PAIR * i;
+    for pair in image[PAIRS..PAIRS + PAIR * count].chunks(PAIR) {
         out.put(Code::Comment as u8);
-        out.copy(&image[at..at + PAIR]);
+        out.copy(pair);
     }
 }
 

@@ -1,11 +1,12 @@
 // Bytes put into an output.
-ghost use Rattle.std.specs.Prelude.{◌≡◌, [], ◌∷◌, ◌+◌, ◌-◌, ◌%◌, ◌≤◌, ◌<◌, ◌^◌, length, set};
+ghost use Rattle.std.specs.Prelude.{◌≡◌, [], ◌∷◌, ◌+◌, ◌-◌, ◌%◌, ◌<◌, ◌^◌, length, set};
 ghost use Rattle.std.proofs.lemmas.List.Edits.{sets};
 ghost use Rattle.image.specs.Write.{bytes4};
 ghost use Rattle.steps.specs.Steps.{bytes2};
 ghost use Rattle.writer.specs.Appends.{Appends, Sets};
 
 // Sets the byte at a place.
+// kept: like `put` of rows, which this crate isn't above.
 fn set(out: &mut [u8], pos: usize, byte: u8)
     ensures { out.new ≡ set out.old pos byte }
 {
@@ -15,6 +16,7 @@ fn set(out: &mut [u8], pos: usize, byte: u8)
 }
 
 // Sets bytes from a place on, as far as there is room. (Made part of its callers: most give a number of bytes that is known there.)
+// kept: renderer's output.rt has the like. No crate with code lies below both, and one for this alone would be longer than the two.
 #[inline(always)]
 fn set_all(out: &mut [u8], pos: usize, bytes: &[u8])
     ensures { out.new ≡ sets out.old pos bytes.now }
@@ -34,13 +36,8 @@ fn set_all(out: &mut [u8], pos: usize, bytes: &[u8])
 fn set_number(out: &mut [u8], pos: usize, n: usize)
     ensures { out.new ≡ sets out.old pos (bytes4 (n % 4294967296)) }
 {
-    let bytes = [
-        (n / 16777216 % 256) as u8,
-        (n / 65536 % 256) as u8,
-        (n / 256 % 256) as u8,
-        (n % 256) as u8,
-    ];
-    set_all(out, pos, &bytes);
+    let low = (n % 4294967296) as u32;
+    set_all(out, pos, &low.to_be_bytes());
 }
 
 // An output, and the place where the next byte goes. Bytes past its end are dropped, so that a run over an output without room counts what it
@@ -73,8 +70,8 @@ impl Output<'_> {
         requires { (self.old.pos + 2 < 2 ^ 64) × (n < 2 ^ 16) }
         ensures { Appends (bytes2 n) self.old self.new }
     {
-        self.put((n / 256) as u8);
-        self.put((n % 256) as u8);
+        let low = n as u16;
+        self.copy(&low.to_be_bytes());
     }
 
     // Puts the low four bytes of a number, big-endian.

@@ -4,6 +4,7 @@ ghost use Rattle.image.specs.KindNumbers.{kind_of};
 ghost use Rattle.image.specs.Places.{due_number};
 ghost use Rattle.writer.specs.Codes.{code_of};
 ghost use Rattle.writer.specs.Steps.{stands, taken};
+ghost use Rattle.steps.specs.Exact.{Bytes};
 ghost use Rattle.steps.specs.Writer.{opened_from};
 
 use image::bytes::num32;
@@ -21,6 +22,15 @@ pub(crate) enum Code {
     Close = 6,
 }
 
+// A place in a list of steps. (The type of a field doesn't tell proofs that its items are bytes.)
+#[derive(Clone, Copy)]
+pub(crate) struct Step<'a> {
+    pub(crate) steps: &'a [u8],
+    pub(crate) at: usize,
+    ghost inside: { at ≤ length steps.now },
+    ghost bytes: { Bytes steps.now },
+}
+
 // How many bytes a comment's step has, and one that opens a record.
 pub(crate) const COMMENT_BYTES: usize = 9;
 
@@ -29,27 +39,38 @@ pub(crate) const OPEN_BYTES: usize = 10;
 // How many bytes a text's step has before the text.
 pub(crate) const TEXT_BYTES: usize = 7;
 
-// Whether n bytes are left at `at`, and the first of them is this code.
-#[tactic(auto, unfolding(crate::specs::Steps::stands))]
-pub(crate) fn stands(steps: &[u8], at: usize, code: Code, n: usize) -> bool
-    requires { (at ≤ length steps.now) × (1 ≤ n) }
-    ensures { result ≡ stands steps.now at (code_of code) n }
-{
-    n <= steps.len() - at && steps[at] == code as u8
-}
+impl Step<'_> {
+    // Whether n bytes are left here, and the first of them is this code.
+    #[tactic(auto, unfolding(crate::specs::Steps::stands))]
+    pub(crate) fn stands(&self, code: Code, n: usize) -> bool
+        requires { 1 ≤ n }
+        ensures { result ≡ stands self.now.steps.now self.now.at (code_of code) n }
+    {
+        n <= self.steps.len() - self.at && self.steps[self.at] == code as u8
+    }
 
-// The kind of the record that the step at `at` opens, if it opens one that is right where this is due.
-#[tactic(auto, using(crate::proofs::Seen::room_for))]
-pub(crate) fn opened_kind(steps: &[u8], due: Due, at: usize) -> Option<Kind>
-    requires { at ≤ length steps.now }
-    ensures { result ≡ cond (taken (opened_from steps.now (due_number due) at)) (kind_of (get_or steps.now (at + 1) 0)) None }
-{
-    if !stands(steps, at, Code::Open, OPEN_BYTES) {
-        return None;
+    // Goes on at another place of the list.
+    pub(crate) fn go_to(&mut self, at: usize)
+        requires { at ≤ length self.old.steps.now }
+        ensures { (self.new.steps.now ≡ self.old.steps.now) × (self.new.at ≡ at) }
+    {
+        self.at = at;
     }
-    let byte = steps[at + 1];
-    if !due.fits(byte) || num32(steps, at + 6) < num32(steps, at + 2) {
-        return None;
+
+    // The kind of the record that the step here opens, if it opens one that is right where this is due.
+    #[tactic(auto, using(crate::proofs::Seen::room_for))]
+    pub(crate) fn opened_kind(&self, due: Due) -> Option<Kind>
+        ensures { result
+            ≡ cond (taken (opened_from self.now.steps.now (due_number due) self.now.at))
+            (kind_of (get_or self.now.steps.now (self.now.at + 1) 0)) None }
+    {
+        if !self.stands(Code::Open, OPEN_BYTES) {
+            return None;
+        }
+        let byte = self.steps[self.at + 1];
+        if !due.fits(byte) || num32(self.steps, self.at + 6) < num32(self.steps, self.at + 2) {
+            return None;
+        }
+        Kind::of(byte)
     }
-    Kind::of(byte)
 }

@@ -1,6 +1,5 @@
 // The image of a whole list: measured first, then put.
 ghost use Rattle.std.specs.Prelude.{◌≡◌, ◌≤◌, length};
-ghost use Rattle.writer.specs.Put.{AtRecord};
 ghost use Rattle.writer.specs.Parts.{TreePut, FrontPut};
 ghost use Rattle.std.proofs.lemmas.List.Edits.{sets};
 ghost use Rattle.refusals.specs.Reasons.{answer_of};
@@ -9,8 +8,7 @@ ghost use Rattle.writer.specs.Wrote.{measured, Room};
 
 use crate::output::Output;
 use crate::pairs::put_comments;
-use crate::records::put_record;
-use crate::step::COMMENT_BYTES;
+use crate::step::{COMMENT_BYTES, Step};
 use image::grammar::Due;
 use image::limits::MAX_RECORDS_DEEP;
 use image::sizes::{HEADER, PAIR, PAIRS};
@@ -29,13 +27,13 @@ pub struct Measured {
 pub(crate) fn measure(steps: &[u8]) -> Result<Measured, Refused>
     ensures { answer_of (λ m. m) result ≡ measured (contents_from steps.now) }
 {
-    let mut none = [0u8; 1];
     let mut out = Output {
-        bytes: &mut none,
+        bytes: &mut [],
         pos: 0,
     };
     let tree = put_comments(steps, &mut out)?;
-    let end = put_record(steps, MAX_RECORDS_DEEP, Due::Tree, tree, &mut out)?;
+    let root = Step { steps, at: tree };
+    let end = root.put_record(MAX_RECORDS_DEEP, Due::Tree, &mut out)?;
     if end < steps.len() {
         return Err(Reason::Steps.at(end));
     }
@@ -47,11 +45,12 @@ pub(crate) fn measure(steps: &[u8]) -> Result<Measured, Refused>
 
 // Puts the tree of a list that was measured.
 fn put_tree(steps: &[u8], at: usize, bytes: &mut [u8])
-    requires { AtRecord steps.now at 0 }
+    requires { at ≤ length steps.now }
     ensures { TreePut steps.now at bytes.old bytes.new }
 {
     let mut out = Output { bytes, pos: 0 };
-    let _ = put_record(steps, MAX_RECORDS_DEEP, Due::Tree, at, &mut out);
+    let root = Step { steps, at };
+    let _ = root.put_record(MAX_RECORDS_DEEP, Due::Tree, &mut out);
 }
 
 // Puts what stands before the tree: the version, the length, and the comments with their number.

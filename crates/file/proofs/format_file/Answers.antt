@@ -13,5 +13,6 @@ returns-in_err-file c =
 
 pub returns : goal.returns
 returns c =
-    let same = IfOk-at_ok (λ (a : Accepted). (a.parsed.source.now ≡ c.args.source.now) × (a.parsed.image.now ≡ c.args.image.now)) c.in_ok-file.was c.check.ensures.same in
+    let same = IfOk-at_ok (λ (a : Accepted). (a.parsed.source.now ≡ c.args.source.now) × (a.parsed.image.now ≡ c.args.image.now))
+    c.in_ok-file.was c.check.ensures.same in
     rw (same.0, same.1) at c.format_accepted.ensures

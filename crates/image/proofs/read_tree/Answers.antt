@@ -9,7 +9,9 @@ use Rattle.image.proofs.Whole.{tree_bad, tree_spare, tree_whole}
 use Rattle.image.proofs.read_tree.Goals as goal
 
 pub returns-in_err-next : goal.returns-in_err-next
-returns-in_err-next c = passed _ _ _ c.from_residual.ensures.1 ∙ sym (tree_bad _ _ _ _ _ (sym c.read_record.ensures ∙ ap (answer_of (λ (n : ℕ). n)) c.in_err-next.was))
+returns-in_err-next c =
+    passed _ _ _ c.from_residual.ensures.1
+    ∙ sym (tree_bad _ _ _ _ _ (sym c.read_record.ensures ∙ ap (answer_of (λ (n : ℕ). n)) c.in_err-next.was))
 
 pub returns-then-next-image : goal.returns-then-next-image
 returns-then-next-image c =

@@ -5,22 +5,31 @@ use Rattle.acts.proofs.Laws.{room_first, room_next, lays_then, lays_if, lays_els
 use Rattle.layout.proofs.Lays.{lays_as, laid_as, has_at, lays_tail, lays_all, laid_all, laid_tail}
 use Rattle.tree.specs.At.{ExprAt, StmtAt}
 use Rattle.acts.proofs.Closes.{closes_call, closes_group, closes_indent, closes_indent_next}
-use Rattle.acts.proofs.Nested.{opens_group, room_group, opens_indent_next, room_indent_next, opens_indent, room_indent, opens_called, room_called, room_called_next}
+use Rattle.acts.proofs.Nested.{opens_group, room_group, opens_indent_next, room_indent_next, opens_indent, room_indent, opens_called}
+use Rattle.acts.proofs.Nested.{room_called, room_called_next}
 use Rattle.layout.specs.Layout as rules
 use lib.Dec.{ltb}
 use Rattle.layout.specs.Ranks.{rank}
 use Rattle.layout.proofs.Ranks.{below_rank}
 use Rattle.layout.specs.declared.forms.Precedence.TheVariants.{Chain}
-use Rattle.layout.proofs.Places.{within, expr_whole, maybe_expr_lem, ident_whole, maybe_type, head_whole, path_whole, absent, present, block_whole, maybe_block_lem, stmt_whole}
-use Rattle.layout.proofs.ExprForms.{comma_laid, comma_room, whole_has, whole_laid, next, expr_is, expr_kind, expr_has, expr_laid}
+use Rattle.layout.proofs.Places.{within, expr_whole, maybe_expr_lem, ident_whole, maybe_type, head_whole, path_whole, absent, present}
+use Rattle.layout.proofs.Places.{block_whole, maybe_block_lem, stmt_whole}
+use Rattle.layout.proofs.ExprForms.{comma_laid, comma_room, whole_has, whole_laid, expr_is, expr_has_kind, expr_has, expr_laid}
+use Rattle.layout.specs.Numbers.{expr_number, stmt_number}
+use Rattle.layout.specs.declared.kinds.FStringPart.TheVariants as parts
+use Rattle.layout.proofs.KindTests.{is_part, other_part}
 use Rattle.image.specs.Bytes.{be32}
 use Rattle.image.specs.Read.{stop_at}
 use Rattle.ast.specs.Syntax.{bin_op, Expr}
 use Rattle.ast.specs.Syntax as syntax
 use Rattle.comments.specs.Listed.{given}
 use Rattle.layout.specs.Forms.{four, expr_with}
-use Rattle.layout.proofs.Operands.{above_size, chain_room, chain_laid, chain_form, above_at, Going, going_next, operator_has, right_has, going_step, going_end}
-use Rattle.layout.proofs.Bodies.{block_parts, block_has, block_laid, body_has, body_laid, text_has, value_has, text_laid, value_laid, parts_first, part_has, parts_rest, parts_none, parts_more, let_has, import_has, does_has, let_laid, import_stmt_lem, does_laid, stmts_first, before_stmt_room, stmt_has, after_stmt_room, stmts_rest, stmts_none, stmts_more}
+use Rattle.layout.proofs.Operands.{above_size, chain_room, chain_laid, chain_form, above_at, Going, going_next, operator_has, right_has}
+use Rattle.layout.proofs.Operands.{going_step, going_end}
+use Rattle.layout.proofs.Bodies.{block_parts, block_has, block_laid, body_has, body_laid, text_has, value_has, text_laid, value_laid}
+use Rattle.layout.proofs.Bodies.{parts_first, part_has_kind, stmt_has_kind, part_has, parts_rest, parts_none, parts_more, parts_in, let_has}
+use Rattle.layout.proofs.Bodies.{import_has, does_has, let_laid, import_stmt_lem, does_laid, stmts_first, before_stmt_room, stmt_has}
+use Rattle.layout.proofs.Bodies.{after_stmt_room, stmts_rest, stmts_none, stmts_more, stmts_in}
 use Rattle.layout.specs.Elems.{EntryAt, entry_rule, ArmAt, arm_rule, grouped_rule}
 use Rattle.layout.proofs.Listing.{has_each, lays_each}
 use Rattle.layout.proofs.Runs.{list_of, grouped_elems_lem, expr_elems_lem, arm_elems_lem, entry_elems_lem}
@@ -29,6 +38,7 @@ use Rattle.acts.specs.Spelling.{spelling}
 use Rattle.layout.proofs.Optionals.{has_block, no_else, some_else, has_last, no_last, some_last, has_expr, no_maybe, some_maybe}
 use mathlib.Core.Bool.{true, false}
 use Rattle.layout.specs.Chains.{Above, grown}
+use Rattle.layout.proofs.Walking.{next_part, none_left}
 use Rattle.layout.proofs.+expr.Goals as goal
 
 pub access-second-p-requires : goal.access-second-p-requires
@@ -43,7 +53,9 @@ access-open-group-requires t c =
 pub access-open-indent-requires : goal.access-open-indent-requires
 unfolding ExprAt rules.expr_with_precedence
 access-open-indent-requires t c =
-    opens_indent_next _ (room_group _ (room_if _ (sym (below_rank c.args.outer Chain) ∙ sym c.lt.ensures ∙ c.if-lt.true) c.requires.room) c.open-group.ensures.opened)
+    opens_indent_next _
+    (room_group _ (room_if _ (sym (below_rank c.args.outer Chain) ∙ sym c.lt.ensures ∙ c.if-lt.true) c.requires.room)
+    c.open-group.ensures.opened)
 
 pub access-expr_with_precedence-requires : goal.access-expr_with_precedence-requires
 unfolding ExprAt rules.expr_with_precedence
@@ -68,7 +80,9 @@ access-field_name-requires t c =
       tree = c.requires.tree.1.1;
       held = c.requires.held.1.1;
       room =
-          room_next (room_indent_next (room_group _ (room_if _ (sym (below_rank c.args.outer Chain) ∙ sym c.lt.ensures ∙ c.if-lt.true) c.requires.room) c.open-group.ensures.opened)
+          room_next (room_indent_next
+          (room_group _ (room_if _ (sym (below_rank c.args.outer Chain) ∙ sym c.lt.ensures ∙ c.if-lt.true) c.requires.room)
+          c.open-group.ensures.opened)
           c.open-indent.ensures.opened)
           ((lays_as c.requires.accepted c.expr_with_precedence.ensures).of c.requires.tree.1.0
           c.requires.held.1.0);
@@ -183,7 +197,7 @@ arm-expr-requires t c =
 pub arm-arm_comma-requires : goal.arm-arm_comma-requires
 arm-arm_comma-requires t c =
     rw c.third-q.ensures (record {
-      whole = expr_whole _ _ _ c.requires.tree.3 c.requires.held.3;
+      has_kind = expr_has_kind _ _ _ c.requires.tree.3 c.requires.held.3;
       room = comma_room _ _ _ c.requires.tree.3 _ c.requires.held.3 (room_next (room_next (room_next (room_next c.requires.room
           ((lays_as c.requires.accepted c.pattern.ensures).of c.requires.tree.1 c.requires.held.1))
           ((lays_as c.requires.accepted c.maybe.ensures).of c.requires.tree.2
@@ -212,7 +226,11 @@ bind-second-p-requires t c = within (ident_whole c.requires.held.1.0)
 
 pub bind-third-q-requires : goal.bind-third-q-requires
 unfolding StmtAt
-bind-third-q-requires t c = record { second_in_image = within (ident_whole c.requires.held.1.0); third_in_image = maybe_type _ _ _ c.requires.tree.2 c.requires.held.1.1 }
+bind-third-q-requires t c =
+    record {
+      second_in_image = within (ident_whole c.requires.held.1.0);
+      third_in_image = maybe_type _ _ _ c.requires.tree.2 c.requires.held.1.1;
+    }
 
 pub bind-word-requires : goal.bind-word-requires
 unfolding StmtAt rules.stmt_form
@@ -293,7 +311,12 @@ bind-returns t c =
 
 pub binop-precedence-q-requires : goal.binop-precedence-q-requires
 unfolding ExprAt
-binop-precedence-q-requires t c = record { in_image = within (expr_whole _ _ _ c.requires.tree.1.0 c.requires.held.1.0); at_in_bounds = omega (arith, c.requires.held.1.1.ends.same, c.requires.held.1.1.head.fits) }
+binop-precedence-q-requires t c =
+    record {
+      in_image = within (expr_whole _ _ _ c.requires.tree.1.0 c.requires.held.1.0);
+      in_bounds = omega (arith, c.requires.held.1.1.ends.same, c.requires.held.1.1.head.fits);
+      known = rw c.requires.held.1.1.which.byte c.requires.held.1.2;
+    }
 
 pub binop-leftmost-left-requires : goal.binop-leftmost-left-requires
 unfolding ExprAt
@@ -794,80 +817,80 @@ expr_with_precedence-returns t c =
     laid_as (cc)
     (whole_laid (rank c.args.outer) (lays_as c.requires.accepted c.form.ensures) (lays c.pop_trailing_comment.ensures.laid))
 
-pub form-kind-requires : goal.form-kind-requires
-form-kind-requires t c = expr_whole _ _ _ c.requires.tree c.requires.held
+pub form-read-requires : goal.form-read-requires
+form-read-requires t c = expr_has_kind _ _ _ c.requires.tree c.requires.held
 
 pub form-ret-requires : goal.form-ret-requires
 unfolding rules.expr_with_precedence
 form-ret-requires t c =
-    let h = expr_has _ (expr_is _ _ _ 50 (sym c.kind.ensures ∙ c.in-50.is)) (rank c.args.outer) c.requires in
+    let h = expr_has _ (expr_is _ _ _ 50 (c.read.ensures ∙ ap expr_number c.in-Return.is)) (rank c.args.outer) c.requires in
     (omega (arith, c.decreases), has_at h h.room)
 
 pub form-literal-requires : goal.form-literal-requires
 unfolding ExprAt rules.expr_with_precedence
 form-literal-requires t c =
-    let h = expr_has _ (expr_is _ _ _ 51 (sym c.kind.ensures ∙ c.in-51.is)) (rank c.args.outer) c.requires in
+    let h = expr_has _ (expr_is _ _ _ 51 (c.read.ensures ∙ ap expr_number c.in-Literal.is)) (rank c.args.outer) c.requires in
     record { accepted = c.requires.accepted; tree = h.tree.1; held = (h.held.1.0, h.held.1.1); room = h.room }
 
 pub form-block-requires : goal.form-block-requires
 unfolding ExprAt rules.expr_with_precedence
 form-block-requires t c =
-    let h = expr_has _ (expr_is _ _ _ 52 (sym c.kind.ensures ∙ c.in-52.is)) (rank c.args.outer) c.requires in
+    let h = expr_has _ (expr_is _ _ _ 52 (c.read.ensures ∙ ap expr_number c.in-Block.is)) (rank c.args.outer) c.requires in
     (omega (arith, c.decreases, h.held.1.1.same), record { accepted = c.requires.accepted; tree = h.tree.1; held = h.held.1.0; room = h.room })
 
 pub form-match_expr-requires : goal.form-match_expr-requires
 unfolding rules.expr_with_precedence
 form-match_expr-requires t c =
-    let h = expr_has _ (expr_is _ _ _ 53 (sym c.kind.ensures ∙ c.in-53.is)) (rank c.args.outer) c.requires in
+    let h = expr_has _ (expr_is _ _ _ 53 (c.read.ensures ∙ ap expr_number c.in-Match.is)) (rank c.args.outer) c.requires in
     (omega (arith, c.decreases), has_at h h.room)
 
 pub form-call-requires : goal.form-call-requires
 form-call-requires t c =
-    let h = expr_has _ (expr_is _ _ _ 54 (sym c.kind.ensures ∙ c.in-54.is)) (rank c.args.outer) c.requires in
+    let h = expr_has _ (expr_is _ _ _ 54 (c.read.ensures ∙ ap expr_number c.in-FunctionCall.is)) (rank c.args.outer) c.requires in
     (omega (arith, c.decreases), h)
 
 pub form-access-requires : goal.form-access-requires
 form-access-requires t c =
-    let h = expr_has _ (expr_is _ _ _ 55 (sym c.kind.ensures ∙ c.in-55.is)) (rank c.args.outer) c.requires in
+    let h = expr_has _ (expr_is _ _ _ 55 (c.read.ensures ∙ ap expr_number c.in-Access.is)) (rank c.args.outer) c.requires in
     (omega (arith, c.decreases), h)
 
 pub form-path-requires : goal.form-path-requires
 unfolding ExprAt rules.expr_with_precedence
 form-path-requires t c =
-    let h = expr_has _ (expr_is _ _ _ 56 (sym c.kind.ensures ∙ c.in-56.is)) (rank c.args.outer) c.requires in
+    let h = expr_has _ (expr_is _ _ _ 56 (c.read.ensures ∙ ap expr_number c.in-Path.is)) (rank c.args.outer) c.requires in
     let e : ltb (rank c.args.outer) 8 ≡ c.lt.result = sym (below_rank c.args.outer Chain) ∙ sym c.lt.ensures in
     record { accepted = c.requires.accepted; tree = h.tree.1; held = h.held.1.0; room = rw e at h.room }
 
 pub form-record-requires : goal.form-record-requires
 unfolding ExprAt rules.expr_with_precedence
 form-record-requires t c =
-    let h = expr_has _ (expr_is _ _ _ 57 (sym c.kind.ensures ∙ c.in-57.is)) (rank c.args.outer) c.requires in (
+    let h = expr_has _ (expr_is _ _ _ 57 (c.read.ensures ∙ ap expr_number c.in-Record.is)) (rank c.args.outer) c.requires in (
       omega (arith, c.decreases, h.held.1.2.same),
       record { accepted = c.requires.accepted; tree = (h.tree.1.0, h.tree.1.1); held = (h.held.1.0, h.held.1.1); room = h.room },
     )
 
-pub form-path-requires-in-58 : goal.form-path-requires-in-58
+pub form-path-requires-in-TypedRecord : goal.form-path-requires-in-TypedRecord
 unfolding ExprAt rules.expr_with_precedence
-form-path-requires-in-58 t c =
-    let h = expr_has _ (expr_is _ _ _ 58 (sym c.kind.ensures ∙ c.in-58.is)) (rank c.args.outer) c.requires in
+form-path-requires-in-TypedRecord t c =
+    let h = expr_has _ (expr_is _ _ _ 58 (c.read.ensures ∙ ap expr_number c.in-TypedRecord.is)) (rank c.args.outer) c.requires in
     record { accepted = c.requires.accepted; tree = h.tree.1.0; held = h.held.1.0; room = room_first _ h.room }
 
 pub form-word-requires : goal.form-word-requires
 unfolding ExprAt rules.expr_with_precedence
 form-word-requires t c =
-    let h = expr_has _ (expr_is _ _ _ 58 (sym c.kind.ensures ∙ c.in-58.is)) (rank c.args.outer) c.requires in
-    room_first _ (room_next h.room ((lays_as c.requires.accepted c.path-in-58.ensures).of h.tree.1.0 h.held.1.0))
+    let h = expr_has _ (expr_is _ _ _ 58 (c.read.ensures ∙ ap expr_number c.in-TypedRecord.is)) (rank c.args.outer) c.requires in
+    room_first _ (room_next h.room ((lays_as c.requires.accepted c.path-in-TypedRecord.ensures).of h.tree.1.0 h.held.1.0))
 
 pub form-second-requires : goal.form-second-requires
 unfolding ExprAt
 form-second-requires t c =
-    let h = expr_has _ (expr_is _ _ _ 58 (sym c.kind.ensures ∙ c.in-58.is)) (rank c.args.outer) c.requires in
+    let h = expr_has _ (expr_is _ _ _ 58 (c.read.ensures ∙ ap expr_number c.in-TypedRecord.is)) (rank c.args.outer) c.requires in
     within (path_whole h.held.1.0)
 
-pub form-record-requires-in-58 : goal.form-record-requires-in-58
+pub form-record-requires-in-TypedRecord : goal.form-record-requires-in-TypedRecord
 unfolding ExprAt rules.expr_with_precedence
-form-record-requires-in-58 t c =
-    let h = expr_has _ (expr_is _ _ _ 58 (sym c.kind.ensures ∙ c.in-58.is)) (rank c.args.outer) c.requires in
+form-record-requires-in-TypedRecord t c =
+    let h = expr_has _ (expr_is _ _ _ 58 (c.read.ensures ∙ ap expr_number c.in-TypedRecord.is)) (rank c.args.outer) c.requires in
     rw c.second.ensures (
       omega (arith, c.decreases, h.held.1.3.same),
       record {
@@ -875,7 +898,7 @@ form-record-requires-in-58 t c =
         tree = (h.tree.1.1, h.tree.1.2);
         held = (h.held.1.1, h.held.1.2);
         room =
-            room_next (room_next h.room ((lays_as c.requires.accepted c.path-in-58.ensures).of h.tree.1.0 h.held.1.0))
+            room_next (room_next h.room ((lays_as c.requires.accepted c.path-in-TypedRecord.ensures).of h.tree.1.0 h.held.1.0))
             (lays c.word.ensures.laid);
       },
     )
@@ -883,61 +906,67 @@ form-record-requires-in-58 t c =
 pub form-list-requires : goal.form-list-requires
 unfolding rules.expr_with_precedence
 form-list-requires t c =
-    let h = expr_has _ (expr_is _ _ _ 59 (sym c.kind.ensures ∙ c.in-59.is)) (rank c.args.outer) c.requires in
+    let h = expr_has _ (expr_is _ _ _ 59 (c.read.ensures ∙ ap expr_number c.in-List.is)) (rank c.args.outer) c.requires in
     (omega (arith, c.decreases), has_at h h.room)
 
 pub form-after-requires : goal.form-after-requires
 unfolding ExprAt rules.expr_with_precedence
 form-after-requires t c =
-    let h = expr_has _ (expr_is _ _ _ 60 (sym c.kind.ensures ∙ c.in-60.is)) (rank c.args.outer) c.requires in
+    let h = expr_has _ (expr_is _ _ _ 60 (c.read.ensures ∙ ap expr_number c.in-Not.is)) (rank c.args.outer) c.requires in
     (omega (arith, c.decreases, h.held.1.1.same), record { accepted = c.requires.accepted; tree = h.tree.1; held = h.held.1.0; room = h.room })
 
-pub form-path-requires-in-61 : goal.form-path-requires-in-61
+pub form-path-requires-in-Assign : goal.form-path-requires-in-Assign
 unfolding ExprAt rules.expr_with_precedence
-form-path-requires-in-61 t c =
-    let h = expr_has _ (expr_is _ _ _ 61 (sym c.kind.ensures ∙ c.in-61.is)) (rank c.args.outer) c.requires in
+form-path-requires-in-Assign t c =
+    let h = expr_has _ (expr_is _ _ _ 61 (c.read.ensures ∙ ap expr_number c.in-Assign.is)) (rank c.args.outer) c.requires in
     record { accepted = c.requires.accepted; tree = h.tree.1.0; held = h.held.1.0; room = room_first _ h.room }
 
-pub form-second-requires-in-61 : goal.form-second-requires-in-61
+pub form-second-requires-in-Assign : goal.form-second-requires-in-Assign
 unfolding ExprAt
-form-second-requires-in-61 t c =
-    let h = expr_has _ (expr_is _ _ _ 61 (sym c.kind.ensures ∙ c.in-61.is)) (rank c.args.outer) c.requires in
+form-second-requires-in-Assign t c =
+    let h = expr_has _ (expr_is _ _ _ 61 (c.read.ensures ∙ ap expr_number c.in-Assign.is)) (rank c.args.outer) c.requires in
     within (path_whole h.held.1.0)
 
-pub form-after-requires-in-61 : goal.form-after-requires-in-61
+pub form-after-requires-in-Assign : goal.form-after-requires-in-Assign
 unfolding ExprAt rules.expr_with_precedence
-form-after-requires-in-61 t c =
-    let h = expr_has _ (expr_is _ _ _ 61 (sym c.kind.ensures ∙ c.in-61.is)) (rank c.args.outer) c.requires in
-    rw c.second-in-61.ensures (
+form-after-requires-in-Assign t c =
+    let h = expr_has _ (expr_is _ _ _ 61 (c.read.ensures ∙ ap expr_number c.in-Assign.is)) (rank c.args.outer) c.requires in
+    rw c.second-in-Assign.ensures (
       omega (arith, c.decreases, h.held.1.2.same),
       record {
         accepted = c.requires.accepted;
         tree = h.tree.1.1;
         held = h.held.1.1;
-        room = room_next h.room ((lays_as c.requires.accepted c.path-in-61.ensures).of h.tree.1.0 h.held.1.0);
+        room = room_next h.room ((lays_as c.requires.accepted c.path-in-Assign.ensures).of h.tree.1.0 h.held.1.0);
       },
     )
 
-pub form-path-requires-in-62 : goal.form-path-requires-in-62
+pub form-path-requires-in-CompoundAssign : goal.form-path-requires-in-CompoundAssign
 unfolding ExprAt rules.expr_with_precedence
-form-path-requires-in-62 t c =
-    let h = expr_has _ (expr_is _ _ _ 62 (sym c.kind.ensures ∙ c.in-62.is)) (rank c.args.outer) c.requires in
+form-path-requires-in-CompoundAssign t c =
+    let h = expr_has _ (expr_is _ _ _ 62 (c.read.ensures ∙ ap expr_number c.in-CompoundAssign.is)) (rank c.args.outer) c.requires in
     record { accepted = c.requires.accepted; tree = h.tree.1.0; held = h.held.1.0; room = room_first _ h.room }
 
 pub form-third-requires : goal.form-third-requires
 unfolding ExprAt
 form-third-requires t c =
-    let h = expr_has _ (expr_is _ _ _ 62 (sym c.kind.ensures ∙ c.in-62.is)) (rank c.args.outer) c.requires in record { second_in_image = within (path_whole h.held.1.0); third_in_image = within (head_whole h.held.1.1.op.head) }
+    let h = expr_has _ (expr_is _ _ _ 62 (c.read.ensures ∙ ap expr_number c.in-CompoundAssign.is)) (rank c.args.outer) c.requires in
+    record { second_in_image = within (path_whole h.held.1.0); third_in_image = within (head_whole h.held.1.1.op.head) }
 
 pub form-assign_word-requires : goal.form-assign_word-requires
 unfolding ExprAt
 form-assign_word-requires t c =
-    let h = expr_has _ (expr_is _ _ _ 62 (sym c.kind.ensures ∙ c.in-62.is)) (rank c.args.outer) c.requires in record { in_image = within (path_whole h.held.1.0); at_in_bounds = omega (arith, h.held.1.1.op.ends.same, h.held.1.1.op.head.fits); at_bound = rw h.held.1.1.op.which.byte h.held.1.2 }
+    let h = expr_has _ (expr_is _ _ _ 62 (c.read.ensures ∙ ap expr_number c.in-CompoundAssign.is)) (rank c.args.outer) c.requires in
+    record {
+      in_image = within (path_whole h.held.1.0);
+      in_bounds = omega (arith, h.held.1.1.op.ends.same, h.held.1.1.op.head.fits);
+      known = rw h.held.1.1.op.which.byte h.held.1.2;
+    }
 
-pub form-after-requires-in-62 : goal.form-after-requires-in-62
+pub form-after-requires-in-CompoundAssign : goal.form-after-requires-in-CompoundAssign
 unfolding ExprAt rules.expr_with_precedence
-form-after-requires-in-62 t c =
-    let h = expr_has _ (expr_is _ _ _ 62 (sym c.kind.ensures ∙ c.in-62.is)) (rank c.args.outer) c.requires in
+form-after-requires-in-CompoundAssign t c =
+    let h = expr_has _ (expr_is _ _ _ 62 (c.read.ensures ∙ ap expr_number c.in-CompoundAssign.is)) (rank c.args.outer) c.requires in
     let e : spelling c.assign_word.result ≡ rules.assign_symbol h.tree.1.1 =
     c.assign_word.ensures ∙ ap rules.assign_symbol h.held.1.1.op.which.byte in
     rw c.third.ensures (
@@ -946,32 +975,32 @@ form-after-requires-in-62 t c =
         accepted = c.requires.accepted;
         tree = h.tree.1.2;
         held = h.held.1.3;
-        room = room_next (rw (← e) at h.room) ((lays_as c.requires.accepted c.path-in-62.ensures).of h.tree.1.0 h.held.1.0);
+        room = room_next (rw (← e) at h.room) ((lays_as c.requires.accepted c.path-in-CompoundAssign.ensures).of h.tree.1.0 h.held.1.0);
       },
     )
 
 pub form-binop-requires : goal.form-binop-requires
 unfolding rules.expr_with_precedence
 form-binop-requires t c =
-    let h = expr_has _ (expr_is _ _ _ 63 (sym c.kind.ensures ∙ c.in-63.is)) (rank c.args.outer) c.requires in
+    let h = expr_has _ (expr_is _ _ _ 63 (c.read.ensures ∙ ap expr_number c.in-BinOp.is)) (rank c.args.outer) c.requires in
     (omega (arith, c.decreases), has_at h h.room)
 
-pub form-after-requires-in-64 : goal.form-after-requires-in-64
+pub form-after-requires-in-Negate : goal.form-after-requires-in-Negate
 unfolding ExprAt rules.expr_with_precedence
-form-after-requires-in-64 t c =
-    let h = expr_has _ (expr_is _ _ _ 64 (sym c.kind.ensures ∙ c.in-64.is)) (rank c.args.outer) c.requires in
+form-after-requires-in-Negate t c =
+    let h = expr_has _ (expr_is _ _ _ 64 (c.read.ensures ∙ ap expr_number c.in-Negate.is)) (rank c.args.outer) c.requires in
     (omega (arith, c.decreases, h.held.1.1.same), record { accepted = c.requires.accepted; tree = h.tree.1; held = h.held.1.0; room = h.room })
 
 pub form-if_else-requires : goal.form-if_else-requires
 unfolding rules.expr_with_precedence
 form-if_else-requires t c =
-    let h = expr_has _ (expr_is _ _ _ 65 (sym c.kind.ensures ∙ c.in-65.is)) (rank c.args.outer) c.requires in
+    let h = expr_has _ (expr_is _ _ _ 65 (c.read.ensures ∙ ap expr_number c.in-IfElse.is)) (rank c.args.outer) c.requires in
     (omega (arith, c.decreases), has_at h h.room)
 
 pub form-cond-requires : goal.form-cond-requires
 unfolding ExprAt rules.expr_with_precedence
 form-cond-requires t c =
-    let h = expr_has _ (expr_is _ _ _ 66 (sym c.kind.ensures ∙ c.in-66.is)) (rank c.args.outer) c.requires in (
+    let h = expr_has _ (expr_is _ _ _ 66 (c.read.ensures ∙ ap expr_number c.in-While.is)) (rank c.args.outer) c.requires in (
       omega (arith, c.decreases, h.held.1.2.same),
       record { accepted = c.requires.accepted; tree = (h.tree.1.0, h.tree.1.1); held = (h.held.1.0, h.held.1.1); room = h.room },
     )
@@ -979,102 +1008,73 @@ form-cond-requires t c =
 pub form-each-requires : goal.form-each-requires
 unfolding rules.expr_with_precedence
 form-each-requires t c =
-    let h = expr_has _ (expr_is _ _ _ 67 (sym c.kind.ensures ∙ c.in-67.is)) (rank c.args.outer) c.requires in
+    let h = expr_has _ (expr_is _ _ _ 67 (c.read.ensures ∙ ap expr_number c.in-For.is)) (rank c.args.outer) c.requires in
     (omega (arith, c.decreases), has_at h h.room)
 
 pub form-expr_with_precedence-requires : goal.form-expr_with_precedence-requires
 unfolding ExprAt rules.expr_with_precedence
 form-expr_with_precedence-requires t c =
-    let h = expr_has _ (expr_is _ _ _ 68 (sym c.kind.ensures ∙ c.in-68.is)) (rank c.args.outer) c.requires in (
+    let h = expr_has _ (expr_is _ _ _ 68 (c.read.ensures ∙ ap expr_number c.in-QuestionMark.is)) (rank c.args.outer) c.requires in (
       omega (arith, c.decreases, h.held.1.1.same),
       record { accepted = c.requires.accepted; tree = h.tree.1; held = h.held.1.0; room = room_first _ h.room },
     )
 
-pub form-word-requires-in-68 : goal.form-word-requires-in-68
+pub form-word-requires-in-QuestionMark : goal.form-word-requires-in-QuestionMark
 unfolding ExprAt rules.expr_with_precedence
-form-word-requires-in-68 t c =
-    let h = expr_has _ (expr_is _ _ _ 68 (sym c.kind.ensures ∙ c.in-68.is)) (rank c.args.outer) c.requires in
+form-word-requires-in-QuestionMark t c =
+    let h = expr_has _ (expr_is _ _ _ 68 (c.read.ensures ∙ ap expr_number c.in-QuestionMark.is)) (rank c.args.outer) c.requires in
     room_next h.room ((lays_as c.requires.accepted c.expr_with_precedence.ensures).of h.tree.1 h.held.1.0)
 
 pub form-fstr-requires : goal.form-fstr-requires
 unfolding rules.expr_with_precedence
 form-fstr-requires t c =
-    let h = expr_has _ (expr_is _ _ _ 69 (sym c.kind.ensures ∙ c.in-69.is)) (rank c.args.outer) c.requires in
+    let h = expr_has _ (expr_is _ _ _ 69 (c.read.ensures ∙ ap expr_number c.in-FString.is)) (rank c.args.outer) c.requires in
     (omega (arith, c.decreases), has_at h h.room)
 
 pub form-par-requires : goal.form-par-requires
 unfolding rules.expr_with_precedence
 form-par-requires t c =
-    let h =
-    expr_has _ (expr_is _ _ _ 70 (omega (
-      arith,
-      c.kind.ensures,
-      (expr_kind _ _ _ c.requires.tree c.requires.held).1,
-      (next 69 (next 68 (next 67 (next 66 (next 65 (next 64 (next 63 (next 62 (next 61 (next 60
-          (next 59 (next 58 (next 57 (next 56 (next 55 (next 54 (next 53 (next 52 (next 51 (next 50
-          (omega (arith, c.kind.ensures, (expr_kind _ _ _ c.requires.tree c.requires.held).0))
-          c.in_default.in_default-own.rest.0.0.0.0.0.0.0.0.0.0.0.0.0.0.0.0.0.0.0.1)
-          c.in_default.in_default-own.rest.0.0.0.0.0.0.0.0.0.0.0.0.0.0.0.0.0.0.1)
-          c.in_default.in_default-own.rest.0.0.0.0.0.0.0.0.0.0.0.0.0.0.0.0.0.1)
-          c.in_default.in_default-own.rest.0.0.0.0.0.0.0.0.0.0.0.0.0.0.0.0.1)
-          c.in_default.in_default-own.rest.0.0.0.0.0.0.0.0.0.0.0.0.0.0.0.1)
-          c.in_default.in_default-own.rest.0.0.0.0.0.0.0.0.0.0.0.0.0.0.1)
-          c.in_default.in_default-own.rest.0.0.0.0.0.0.0.0.0.0.0.0.0.1)
-          c.in_default.in_default-own.rest.0.0.0.0.0.0.0.0.0.0.0.0.1)
-          c.in_default.in_default-own.rest.0.0.0.0.0.0.0.0.0.0.0.1)
-          c.in_default.in_default-own.rest.0.0.0.0.0.0.0.0.0.0.1)
-          c.in_default.in_default-own.rest.0.0.0.0.0.0.0.0.0.1)
-          c.in_default.in_default-own.rest.0.0.0.0.0.0.0.0.1)
-          c.in_default.in_default-own.rest.0.0.0.0.0.0.0.1)
-          c.in_default.in_default-own.rest.0.0.0.0.0.0.1)
-          c.in_default.in_default-own.rest.0.0.0.0.0.1)
-          c.in_default.in_default-own.rest.0.0.0.0.1)
-          c.in_default.in_default-own.rest.0.0.0.1)
-          c.in_default.in_default-own.rest.0.0.1)
-          c.in_default.in_default-own.rest.0.1)
-          c.in_default.in_default-own.rest.1),
-    ))) (rank c.args.outer) c.requires
-    in
+    let h = expr_has _ (expr_is _ _ _ 70 (c.read.ensures ∙ ap expr_number c.in-Parentheses.is)) (rank c.args.outer) c.requires in
     (omega (arith, c.decreases), has_at h h.room)
 
-pub form-returns-in-50 : goal.form-returns-in-50
+pub form-returns-in-Return : goal.form-returns-in-Return
 unfolding ExprAt rules.expr_with_precedence
-form-returns-in-50 t c =
-    laid_as (cc) (expr_laid _ (expr_is _ _ _ 50 (sym c.kind.ensures ∙ c.in-50.is)) (rank c.args.outer)
+form-returns-in-Return t c =
+    laid_as (cc) (expr_laid _ (expr_is _ _ _ 50 (c.read.ensures ∙ ap expr_number c.in-Return.is)) (rank c.args.outer)
     (record { of = λ x a. (lays_as c.requires.accepted c.ret.ensures).of x a }))
 
-pub form-returns-in-51 : goal.form-returns-in-51
+pub form-returns-in-Literal : goal.form-returns-in-Literal
 unfolding ExprAt rules.expr_with_precedence
-form-returns-in-51 t c =
-    laid_as (cc) (expr_laid _ (expr_is _ _ _ 51 (sym c.kind.ensures ∙ c.in-51.is)) (rank c.args.outer)
+form-returns-in-Literal t c =
+    laid_as (cc) (expr_laid _ (expr_is _ _ _ 51 (c.read.ensures ∙ ap expr_number c.in-Literal.is)) (rank c.args.outer)
     (record { of = λ x a. (lays_as c.requires.accepted c.literal.ensures).of x.1 (a.1.0, a.1.1) }))
 
-pub form-returns-in-52 : goal.form-returns-in-52
+pub form-returns-in-Block : goal.form-returns-in-Block
 unfolding ExprAt rules.expr_with_precedence
-form-returns-in-52 t c =
-    laid_as (cc) (expr_laid _ (expr_is _ _ _ 52 (sym c.kind.ensures ∙ c.in-52.is)) (rank c.args.outer)
+form-returns-in-Block t c =
+    laid_as (cc) (expr_laid _ (expr_is _ _ _ 52 (c.read.ensures ∙ ap expr_number c.in-Block.is)) (rank c.args.outer)
     (record { of = λ x a. (lays_as c.requires.accepted c.block.ensures).of x.1 a.1.0 }))
 
-pub form-returns-in-53 : goal.form-returns-in-53
+pub form-returns-in-Match : goal.form-returns-in-Match
 unfolding ExprAt rules.expr_with_precedence
-form-returns-in-53 t c =
-    laid_as (cc) (expr_laid _ (expr_is _ _ _ 53 (sym c.kind.ensures ∙ c.in-53.is)) (rank c.args.outer)
+form-returns-in-Match t c =
+    laid_as (cc) (expr_laid _ (expr_is _ _ _ 53 (c.read.ensures ∙ ap expr_number c.in-Match.is)) (rank c.args.outer)
     (record { of = λ x a. (lays_as c.requires.accepted c.match_expr.ensures).of x a }))
 
-pub form-returns-in-54 : goal.form-returns-in-54
-form-returns-in-54 t c =
-    laid_as (cc) (expr_laid _ (expr_is _ _ _ 54 (sym c.kind.ensures ∙ c.in-54.is))
+pub form-returns-in-FunctionCall : goal.form-returns-in-FunctionCall
+form-returns-in-FunctionCall t c =
+    laid_as (cc) (expr_laid _ (expr_is _ _ _ 54 (c.read.ensures ∙ ap expr_number c.in-FunctionCall.is))
     (rank c.args.outer) (lays_as c.requires.accepted c.call.ensures))
 
-pub form-returns-in-55 : goal.form-returns-in-55
-form-returns-in-55 t c =
-    laid_as (cc) (expr_laid _ (expr_is _ _ _ 55 (sym c.kind.ensures ∙ c.in-55.is))
+pub form-returns-in-Access : goal.form-returns-in-Access
+form-returns-in-Access t c =
+    laid_as (cc) (expr_laid _ (expr_is _ _ _ 55 (c.read.ensures ∙ ap expr_number c.in-Access.is))
     (rank c.args.outer) (lays_as c.requires.accepted c.access.ensures))
 
-pub form-returns-in-56 : goal.form-returns-in-56
+pub form-returns-in-Path : goal.form-returns-in-Path
 unfolding ExprAt rules.expr_with_precedence
-form-returns-in-56 t c =
-    laid_as (cc) (expr_laid _ (expr_is _ _ _ 56 (sym c.kind.ensures ∙ c.in-56.is)) (rank c.args.outer)
+form-returns-in-Path t c =
+    laid_as (cc) (expr_laid _ (expr_is _ _ _ 56 (c.read.ensures ∙ ap expr_number c.in-Path.is)) (rank c.args.outer)
     (record {
       of =
           λ x a.
@@ -1082,136 +1082,110 @@ form-returns-in-56 t c =
           rw e ((lays_as c.requires.accepted c.path.ensures).of x.1 a.1.0);
     }))
 
-pub form-returns-in-57 : goal.form-returns-in-57
+pub form-returns-in-Record : goal.form-returns-in-Record
 unfolding ExprAt rules.expr_with_precedence
-form-returns-in-57 t c =
-    laid_as (cc) (expr_laid _ (expr_is _ _ _ 57 (sym c.kind.ensures ∙ c.in-57.is)) (rank c.args.outer)
+form-returns-in-Record t c =
+    laid_as (cc) (expr_laid _ (expr_is _ _ _ 57 (c.read.ensures ∙ ap expr_number c.in-Record.is)) (rank c.args.outer)
     (record { of = λ x a. (lays_as c.requires.accepted c.«record».ensures).of (x.1.0, x.1.1) (a.1.0, a.1.1) }))
 
-pub form-returns-in-58 : goal.form-returns-in-58
+pub form-returns-in-TypedRecord : goal.form-returns-in-TypedRecord
 unfolding ExprAt rules.expr_with_precedence
-form-returns-in-58 t c =
-    laid_as (cc) (expr_laid _ (expr_is _ _ _ 58 (sym c.kind.ensures ∙ c.in-58.is)) (rank c.args.outer) (record {
+form-returns-in-TypedRecord t c =
+    laid_as (cc) (expr_laid _ (expr_is _ _ _ 58 (c.read.ensures ∙ ap expr_number c.in-TypedRecord.is)) (rank c.args.outer) (record {
       of =
-          λ x a. lays_then ((lays_as c.requires.accepted c.path-in-58.ensures).of x.1.0 a.1.0) (lays_then (lays c.word.ensures.laid)
-          ((lays_as c.requires.accepted c.record-in-58.ensures).of (x.1.1, x.1.2)
+          λ x a. lays_then ((lays_as c.requires.accepted c.path-in-TypedRecord.ensures).of x.1.0 a.1.0) (lays_then (lays c.word.ensures.laid)
+          ((lays_as c.requires.accepted c.record-in-TypedRecord.ensures).of (x.1.1, x.1.2)
           (rw c.second.ensures (a.1.1, a.1.2))));
     }))
 
-pub form-returns-in-59 : goal.form-returns-in-59
+pub form-returns-in-List : goal.form-returns-in-List
 unfolding rules.expr_with_precedence
-form-returns-in-59 t c =
-    laid_as (cc) (expr_laid _ (expr_is _ _ _ 59 (sym c.kind.ensures ∙ c.in-59.is)) (rank c.args.outer)
+form-returns-in-List t c =
+    laid_as (cc) (expr_laid _ (expr_is _ _ _ 59 (c.read.ensures ∙ ap expr_number c.in-List.is)) (rank c.args.outer)
     (record { of = λ x a. (lays_as c.requires.accepted c.list.ensures).of x a }))
 
-pub form-returns-in-60 : goal.form-returns-in-60
+pub form-returns-in-Not : goal.form-returns-in-Not
 unfolding ExprAt rules.expr_with_precedence
-form-returns-in-60 t c =
-    laid_as (cc) (expr_laid _ (expr_is _ _ _ 60 (sym c.kind.ensures ∙ c.in-60.is)) (rank c.args.outer)
+form-returns-in-Not t c =
+    laid_as (cc) (expr_laid _ (expr_is _ _ _ 60 (c.read.ensures ∙ ap expr_number c.in-Not.is)) (rank c.args.outer)
     (record { of = λ x a. (lays_as c.requires.accepted c.after.ensures).of x.1 a.1.0 }))
 
-pub form-returns-in-61 : goal.form-returns-in-61
+pub form-returns-in-Assign : goal.form-returns-in-Assign
 unfolding ExprAt rules.expr_with_precedence
-form-returns-in-61 t c =
+form-returns-in-Assign t c =
     laid_as (cc)
-    (expr_laid _ (expr_is _ _ _ 61 (sym c.kind.ensures ∙ c.in-61.is)) (rank c.args.outer)
+    (expr_laid _ (expr_is _ _ _ 61 (c.read.ensures ∙ ap expr_number c.in-Assign.is)) (rank c.args.outer)
     (record {
       of =
-          λ x a. lays_then ((lays_as c.requires.accepted c.path-in-61.ensures).of x.1.0 a.1.0)
-          ((lays_as c.requires.accepted c.after-in-61.ensures).of x.1.1 (rw c.second-in-61.ensures a.1.1));
+          λ x a. lays_then ((lays_as c.requires.accepted c.path-in-Assign.ensures).of x.1.0 a.1.0)
+          ((lays_as c.requires.accepted c.after-in-Assign.ensures).of x.1.1 (rw c.second-in-Assign.ensures a.1.1));
     }))
 
-pub form-returns-in-62 : goal.form-returns-in-62
+pub form-returns-in-CompoundAssign : goal.form-returns-in-CompoundAssign
 unfolding ExprAt rules.expr_with_precedence
-form-returns-in-62 t c =
+form-returns-in-CompoundAssign t c =
     laid_as (cc)
-    (expr_laid _ (expr_is _ _ _ 62 (sym c.kind.ensures ∙ c.in-62.is)) (rank c.args.outer)
+    (expr_laid _ (expr_is _ _ _ 62 (c.read.ensures ∙ ap expr_number c.in-CompoundAssign.is)) (rank c.args.outer)
     (record {
       of =
           λ x a.
           let e : spelling c.assign_word.result ≡ rules.assign_symbol x.1.1 =
           c.assign_word.ensures ∙ ap rules.assign_symbol a.1.1.op.which.byte in
-          rw (← e) (lays_then ((lays_as c.requires.accepted c.path-in-62.ensures).of x.1.0 a.1.0)
-          ((lays_as c.requires.accepted c.after-in-62.ensures).of x.1.2 (rw c.third.ensures a.1.3)));
+          rw (← e) (lays_then ((lays_as c.requires.accepted c.path-in-CompoundAssign.ensures).of x.1.0 a.1.0)
+          ((lays_as c.requires.accepted c.after-in-CompoundAssign.ensures).of x.1.2 (rw c.third.ensures a.1.3)));
     }))
 
-pub form-returns-in-63 : goal.form-returns-in-63
+pub form-returns-in-BinOp : goal.form-returns-in-BinOp
 unfolding ExprAt rules.expr_with_precedence
-form-returns-in-63 t c =
-    laid_as (cc) (expr_laid _ (expr_is _ _ _ 63 (sym c.kind.ensures ∙ c.in-63.is)) (rank c.args.outer)
+form-returns-in-BinOp t c =
+    laid_as (cc) (expr_laid _ (expr_is _ _ _ 63 (c.read.ensures ∙ ap expr_number c.in-BinOp.is)) (rank c.args.outer)
     (record { of = λ x a. (lays_as c.requires.accepted c.binop.ensures).of x a }))
 
-pub form-returns-in-64 : goal.form-returns-in-64
+pub form-returns-in-Negate : goal.form-returns-in-Negate
 unfolding ExprAt rules.expr_with_precedence
-form-returns-in-64 t c =
-    laid_as (cc) (expr_laid _ (expr_is _ _ _ 64 (sym c.kind.ensures ∙ c.in-64.is)) (rank c.args.outer)
-    (record { of = λ x a. (lays_as c.requires.accepted c.after-in-64.ensures).of x.1 a.1.0 }))
+form-returns-in-Negate t c =
+    laid_as (cc) (expr_laid _ (expr_is _ _ _ 64 (c.read.ensures ∙ ap expr_number c.in-Negate.is)) (rank c.args.outer)
+    (record { of = λ x a. (lays_as c.requires.accepted c.after-in-Negate.ensures).of x.1 a.1.0 }))
 
-pub form-returns-in-65 : goal.form-returns-in-65
+pub form-returns-in-IfElse : goal.form-returns-in-IfElse
 unfolding ExprAt rules.expr_with_precedence
-form-returns-in-65 t c =
-    laid_as (cc) (expr_laid _ (expr_is _ _ _ 65 (sym c.kind.ensures ∙ c.in-65.is)) (rank c.args.outer)
+form-returns-in-IfElse t c =
+    laid_as (cc) (expr_laid _ (expr_is _ _ _ 65 (c.read.ensures ∙ ap expr_number c.in-IfElse.is)) (rank c.args.outer)
     (record { of = λ x a. (lays_as c.requires.accepted c.if_else.ensures).of x a }))
 
-pub form-returns-in-66 : goal.form-returns-in-66
+pub form-returns-in-While : goal.form-returns-in-While
 unfolding ExprAt rules.expr_with_precedence
-form-returns-in-66 t c =
-    laid_as (cc) (expr_laid _ (expr_is _ _ _ 66 (sym c.kind.ensures ∙ c.in-66.is)) (rank c.args.outer)
+form-returns-in-While t c =
+    laid_as (cc) (expr_laid _ (expr_is _ _ _ 66 (c.read.ensures ∙ ap expr_number c.in-While.is)) (rank c.args.outer)
     (record { of = λ x a. (lays_as c.requires.accepted c.cond.ensures).of (x.1.0, x.1.1) (a.1.0, a.1.1) }))
 
-pub form-returns-in-67 : goal.form-returns-in-67
+pub form-returns-in-For : goal.form-returns-in-For
 unfolding ExprAt rules.expr_with_precedence
-form-returns-in-67 t c =
-    laid_as (cc) (expr_laid _ (expr_is _ _ _ 67 (sym c.kind.ensures ∙ c.in-67.is)) (rank c.args.outer)
+form-returns-in-For t c =
+    laid_as (cc) (expr_laid _ (expr_is _ _ _ 67 (c.read.ensures ∙ ap expr_number c.in-For.is)) (rank c.args.outer)
     (record { of = λ x a. (lays_as c.requires.accepted c.each.ensures).of x a }))
 
-pub form-returns-in-68 : goal.form-returns-in-68
+pub form-returns-in-QuestionMark : goal.form-returns-in-QuestionMark
 unfolding ExprAt rules.expr_with_precedence
-form-returns-in-68 t c =
-    laid_as (cc) (expr_laid _ (expr_is _ _ _ 68 (sym c.kind.ensures ∙ c.in-68.is)) (rank c.args.outer)
+form-returns-in-QuestionMark t c =
+    laid_as (cc) (expr_laid _ (expr_is _ _ _ 68 (c.read.ensures ∙ ap expr_number c.in-QuestionMark.is)) (rank c.args.outer)
     (record {
       of =
           λ x a. lays_then ((lays_as c.requires.accepted c.expr_with_precedence.ensures).of x.1 a.1.0)
-          (lays c.word-in-68.ensures.laid);
+          (lays c.word-in-QuestionMark.ensures.laid);
     }))
 
-pub form-returns-in-69 : goal.form-returns-in-69
+pub form-returns-in-FString : goal.form-returns-in-FString
 unfolding ExprAt rules.expr_with_precedence
-form-returns-in-69 t c =
-    laid_as (cc) (expr_laid _ (expr_is _ _ _ 69 (sym c.kind.ensures ∙ c.in-69.is)) (rank c.args.outer)
+form-returns-in-FString t c =
+    laid_as (cc) (expr_laid _ (expr_is _ _ _ 69 (c.read.ensures ∙ ap expr_number c.in-FString.is)) (rank c.args.outer)
     (record { of = λ x a. (lays_as c.requires.accepted c.fstr.ensures).of x a }))
 
-pub form-returns-in_default : goal.form-returns-in_default
+pub form-returns-in-Parentheses : goal.form-returns-in-Parentheses
 unfolding ExprAt rules.expr_with_precedence
-form-returns-in_default t c =
-    laid_as (cc) (expr_laid _ (expr_is _ _ _ 70 (omega (
-      arith,
-      c.kind.ensures,
-      (expr_kind _ _ _ c.requires.tree c.requires.held).1,
-      (next 69 (next 68 (next 67 (next 66 (next 65 (next 64 (next 63 (next 62 (next 61 (next 60
-          (next 59 (next 58 (next 57 (next 56 (next 55 (next 54 (next 53 (next 52 (next 51 (next 50
-          (omega (arith, c.kind.ensures, (expr_kind _ _ _ c.requires.tree c.requires.held).0))
-          c.in_default.in_default-own.rest.0.0.0.0.0.0.0.0.0.0.0.0.0.0.0.0.0.0.0.1)
-          c.in_default.in_default-own.rest.0.0.0.0.0.0.0.0.0.0.0.0.0.0.0.0.0.0.1)
-          c.in_default.in_default-own.rest.0.0.0.0.0.0.0.0.0.0.0.0.0.0.0.0.0.1)
-          c.in_default.in_default-own.rest.0.0.0.0.0.0.0.0.0.0.0.0.0.0.0.0.1)
-          c.in_default.in_default-own.rest.0.0.0.0.0.0.0.0.0.0.0.0.0.0.0.1)
-          c.in_default.in_default-own.rest.0.0.0.0.0.0.0.0.0.0.0.0.0.0.1)
-          c.in_default.in_default-own.rest.0.0.0.0.0.0.0.0.0.0.0.0.0.1)
-          c.in_default.in_default-own.rest.0.0.0.0.0.0.0.0.0.0.0.0.1)
-          c.in_default.in_default-own.rest.0.0.0.0.0.0.0.0.0.0.0.1)
-          c.in_default.in_default-own.rest.0.0.0.0.0.0.0.0.0.0.1)
-          c.in_default.in_default-own.rest.0.0.0.0.0.0.0.0.0.1)
-          c.in_default.in_default-own.rest.0.0.0.0.0.0.0.0.1)
-          c.in_default.in_default-own.rest.0.0.0.0.0.0.0.1)
-          c.in_default.in_default-own.rest.0.0.0.0.0.0.1)
-          c.in_default.in_default-own.rest.0.0.0.0.0.1)
-          c.in_default.in_default-own.rest.0.0.0.0.1)
-          c.in_default.in_default-own.rest.0.0.0.1)
-          c.in_default.in_default-own.rest.0.0.1)
-          c.in_default.in_default-own.rest.0.1)
-          c.in_default.in_default-own.rest.1),
-    ))) (rank c.args.outer) (record { of = λ x a. (lays_as c.requires.accepted c.par.ensures).of x a }))
+form-returns-in-Parentheses t c =
+    laid_as (cc) (expr_laid _ (expr_is _ _ _ 70 (c.read.ensures ∙ ap expr_number c.in-Parentheses.is)) (rank c.args.outer)
+    (record { of = λ x a. (lays_as c.requires.accepted c.par.ensures).of x a }))
 
 pub fstr-start-requires : goal.fstr-start-requires
 unfolding ExprAt
@@ -1308,13 +1282,19 @@ pub function_args-returns : goal.function_args-returns
 function_args-returns t c =
     laid_as (cc) (record {
       of =
-          λ x a. (lays_each ExprAt rules.expr_rule _ (λ p low high x h. (omega (arith, c.decreases, low, high), h)) (λ p x y r. r) c.requires.accepted c.separated.ensures).of (rules.expr_elems _ x.1)
+          λ x a.
+          (lays_each ExprAt rules.expr_rule _ (λ p low high x h. (omega (arith, c.decreases, low, high), h)) (λ p x y r. r) c.requires.accepted
+          c.separated.ensures).of (rules.expr_elems _ x.1)
           (list_of a.0 (expr_elems_lem _ _ _ _ x.1 a.1)) x.0 (c.end.ensures ∙ a.0.end);
     })
 
 pub if_else-third-p-requires : goal.if_else-third-p-requires
 unfolding ExprAt
-if_else-third-p-requires t c = record { second_in_image = within (expr_whole _ _ _ c.requires.tree.1.0 c.requires.held.1.0); third_in_image = within (block_whole _ _ _ c.requires.tree.1.1 c.requires.held.1.1) }
+if_else-third-p-requires t c =
+    record {
+      second_in_image = within (expr_whole _ _ _ c.requires.tree.1.0 c.requires.held.1.0);
+      third_in_image = within (block_whole _ _ _ c.requires.tree.1.1 c.requires.held.1.1);
+    }
 
 pub if_else-cond-requires : goal.if_else-cond-requires
 unfolding ExprAt rules.expr_with_precedence
@@ -1419,7 +1399,8 @@ last-expr-requires t c =
 
 pub last-pop_trailing_comment-requires : goal.last-pop_trailing_comment-requires
 last-pop_trailing_comment-requires t c =
-    let h = has_last c.args.first (present c.is_absent.ensures c.if-is_absent.false) c.start.ensures c.requires in (room_next (room_next h.room (lays c.before_stmt.ensures.laid))
+    let h = has_last c.args.first (present c.is_absent.ensures c.if-is_absent.false) c.start.ensures c.requires in
+    (room_next (room_next h.room (lays c.before_stmt.ensures.laid))
     ((lays_as c.requires.accepted c.expr.ensures).of h.tree h.held))
 
 pub last-returns : goal.last-returns
@@ -1462,7 +1443,9 @@ match_expr-end-requires t c =
 pub match_expr-separated-requires : goal.match_expr-separated-requires
 unfolding ExprAt rules.expr_with_precedence
 match_expr-separated-requires t c =
-    has_each ArmAt arm_rule _ (λ p low high x h. (omega (arith, c.decreases, low, high, c.second-p.ensures, ap (λ (n : ℕ). stop_at c.args.parsed.now.image.now n) c.second-p.ensures, c.requires.held.1.3.same), h)) (λ p x y r. r)
+    let stop = ap (λ (n : ℕ). stop_at c.args.parsed.now.image.now n) c.second-p.ensures in
+    has_each ArmAt arm_rule _
+    (λ p low high x h. (omega (arith, c.decreases, low, high, c.second-p.ensures, stop, c.requires.held.1.3.same), h)) (λ p x y r. r)
     (rw (c.end.ensures, c.second-p.ensures) (record {
       accepted = c.requires.accepted;
       tree = rules.arm_elems _ c.requires.tree.1.2;
@@ -1479,7 +1462,11 @@ pub match_expr-returns : goal.match_expr-returns
 unfolding ExprAt rules.expr_with_precedence
 match_expr-returns t c =
     laid_as (cc)
-    (let l = rw (c.end.ensures, c.second-p.ensures) at (lays_each ArmAt arm_rule _ (λ p low high x h. (omega (arith, c.decreases, low, high, c.second-p.ensures, ap (λ (n : ℕ). stop_at c.args.parsed.now.image.now n) c.second-p.ensures, c.requires.held.1.3.same), h)) (λ p x y r. r) c.requires.accepted c.separated.ensures) in
+    (let stop = ap (λ (n : ℕ). stop_at c.args.parsed.now.image.now n) c.second-p.ensures in
+    let l = rw (c.end.ensures, c.second-p.ensures) at
+    (lays_each ArmAt arm_rule _
+    (λ p low high x h. (omega (arith, c.decreases, low, high, c.second-p.ensures, stop, c.requires.held.1.3.same), h)) (λ p x y r. r)
+    c.requires.accepted c.separated.ensures) in
     record {
       of =
           λ x a.
@@ -1557,22 +1544,25 @@ par-returns t c =
           (lays_then ((lays_as c.requires.accepted c.expr.ensures).of x.1 a.1.0) (lays c.word-2.ensures.laid))));
     })
 
+pub part-read-requires : goal.part-read-requires
+part-read-requires t c = part_has_kind _ _ _ c.requires.tree c.requires.held
+
 pub part-content-requires : goal.part-content-requires
 part-content-requires t c =
-    text_has (sym c.kind.ensures ∙ c.if-kind-eq-TEXT_PART.true) c.requires
+    text_has (is_part _ parts.String c.read.ensures c.eq.ensures c.if-eq.true) c.requires
 
-pub part-returns-then-kind-eq-TEXT_PART : goal.part-returns-then-kind-eq-TEXT_PART
-part-returns-then-kind-eq-TEXT_PART t c =
-    laid_as (cc) (text_laid (sym c.kind.ensures ∙ c.if-kind-eq-TEXT_PART.true) (lays_as c.requires.accepted c.content.ensures))
+pub part-returns-then-eq : goal.part-returns-then-eq
+part-returns-then-eq t c =
+    laid_as (cc) (text_laid (is_part _ parts.String c.read.ensures c.eq.ensures c.if-eq.true) (lays_as c.requires.accepted c.content.ensures))
 
 pub part-word-requires : goal.part-word-requires
 part-word-requires t c =
-    let h = value_has (λ e. c.if-kind-eq-TEXT_PART.false (c.kind.ensures ∙ e)) c.requires in
+    let h = value_has (other_part _ parts.String c.read.ensures c.eq.ensures c.if-eq.false) c.requires in
     room_first _ h.room
 
 pub part-expr-requires : goal.part-expr-requires
 part-expr-requires t c =
-    let h = value_has (λ e. c.if-kind-eq-TEXT_PART.false (c.kind.ensures ∙ e)) c.requires in (
+    let h = value_has (other_part _ parts.String c.read.ensures c.eq.ensures c.if-eq.false) c.requires in (
       omega (arith, c.decreases, h.held.1.same),
       record {
         accepted = c.requires.accepted;
@@ -1584,44 +1574,38 @@ part-expr-requires t c =
 
 pub part-word-requires-2 : goal.part-word-requires-2
 part-word-requires-2 t c =
-    let h = value_has (λ e. c.if-kind-eq-TEXT_PART.false (c.kind.ensures ∙ e)) c.requires in
+    let h = value_has (other_part _ parts.String c.read.ensures c.eq.ensures c.if-eq.false) c.requires in
     room_next (room_next h.room (lays c.word.ensures.laid)) ((lays_as c.requires.accepted c.expr.ensures).of h.tree h.held.0)
 
 pub part-returns : goal.part-returns
 part-returns t c =
-    laid_as (cc) (value_laid (λ e. c.if-kind-eq-TEXT_PART.false (c.kind.ensures ∙ e)) (lays c.word.ensures.laid)
+    laid_as (cc) (value_laid (other_part _ parts.String c.read.ensures c.eq.ensures c.if-eq.false) (lays c.word.ensures.laid)
     (lays_as c.requires.accepted c.expr.ensures) (lays c.word-2.ensures.laid))
 
-pub parts-loop-p-init : goal.parts-loop-p-init
-parts-loop-p-init t c = (refl, omega arith, c.requires, λ x e l. l)
+pub parts-records-at-items-requires : goal.parts-records-at-items-requires
+parts-records-at-items-requires t c = parts_in _ _ _ _ _ c.requires.held
 
 pub parts-part-requires : goal.parts-part-requires
 parts-part-requires t c =
-    let m = parts_first c.loop-p-test.true c.loop-p.invariant.2 in
-    (omega (arith, c.decreases, m.least, c.loop-p.invariant.1), part_has m)
+    let n = next_part c.loop-at.invariant c.in-Some.ensures.steps in
+    let m = parts_first n.before n.has in
+    (omega (arith, c.decreases, m.least, n.far), part_has m)
 
-pub parts-past-p-requires : goal.parts-past-p-requires
-parts-past-p-requires t c =
-    let m = parts_first c.loop-p-test.true c.loop-p.invariant.2 in
-    record { fits = m.whole.fits }
-
-pub parts-loop-p-smaller : goal.parts-loop-p-smaller
-parts-loop-p-smaller t c =
-    let m = parts_first c.loop-p-test.true c.loop-p.invariant.2 in
-    omega (arith, m.least, m.whole.long, c.past-p.ensures, c.loop-p-test.true)
-
-pub parts-loop-p-preserved : goal.parts-loop-p-preserved
-parts-loop-p-preserved t c =
-    let m = parts_first c.loop-p-test.true c.loop-p.invariant.2 in (
-      c.part.ensures.same ∙ c.loop-p.invariant.0,
-      omega (arith, c.past-p.ensures, c.loop-p.invariant.1),
-      rw c.past-p.ensures (parts_rest m (lays_as c.requires.accepted c.part.ensures)),
-      λ x e l. c.loop-p.invariant.3 x e
-          (parts_more c.loop-p-test.true (lays_as c.requires.accepted c.part.ensures) (rw c.past-p.ensures at l)),
-    )
+pub parts-loop-at-preserved : goal.parts-loop-at-preserved
+parts-loop-at-preserved t c =
+    let n = next_part c.loop-at.invariant c.in-Some.ensures.steps in
+    let laid = lays_as c.requires.accepted c.part.ensures in
+    record {
+      at = _;
+      far = omega (arith, n.far);
+      left_is = n.more_is;
+      has = parts_rest (parts_first n.before n.has) laid;
+      finishes = λ x e l. n.finishes x e (parts_more n.before laid l);
+      same = c.part.ensures.same ∙ c.loop-at.invariant.same;
+    }
 
 pub parts-returns : goal.parts-returns
-parts-returns t c = laid_all (cc) (c.loop-p.invariant.3 _ _ (parts_none c.loop-p-test.false))
+parts-returns t c = laid_all (cc) (c.loop-at.invariant.finishes _ _ (parts_none (none_left c.loop-at.invariant c.in-None.ensures.steps.0)))
 
 pub record-separated-requires : goal.record-separated-requires
 record-separated-requires t c =
@@ -1639,7 +1623,9 @@ pub record-returns : goal.record-returns
 record-returns t c =
     laid_as (cc) (record {
       of =
-          λ x a. (lays_each EntryAt entry_rule _ (λ p low high x h. (omega (arith, c.decreases, low, high), h)) (λ p x y r. r) c.requires.accepted c.separated.ensures).of (rules.entry_elems _ x.1)
+          λ x a.
+          (lays_each EntryAt entry_rule _ (λ p low high x h. (omega (arith, c.decreases, low, high), h)) (λ p x y r. r) c.requires.accepted
+          c.separated.ensures).of (rules.entry_elems _ x.1)
           (list_of a.0 (entry_elems_lem _ _ _ _ x.1 a.1)) x.0 (c.end.ensures ∙ a.0.end);
     })
 
@@ -1688,22 +1674,22 @@ ret-returns t c =
           rw (← e) (lays_then (lays c.word.ensures.laid) ((lays_as c.requires.accepted c.maybe.ensures).of x.1.1 a.1.2));
     })
 
-pub stmt-kind-requires : goal.stmt-kind-requires
-stmt-kind-requires t c = stmt_whole _ _ _ c.requires.tree c.requires.held
+pub stmt-read-requires : goal.stmt-read-requires
+stmt-read-requires t c = stmt_has_kind _ _ _ c.requires.tree c.requires.held
 
 pub stmt-bind-requires : goal.stmt-bind-requires
 stmt-bind-requires t c =
-    (omega (arith, c.decreases), let_has (sym c.kind.ensures ∙ c.in-30.is) c.requires)
+    (omega (arith, c.decreases), let_has (c.read.ensures ∙ ap stmt_number c.in-Let.is) c.requires)
 
 pub stmt-word-requires : goal.stmt-word-requires
 stmt-word-requires t c =
-    let h = import_has (sym c.kind.ensures ∙ c.in-31.is) c.requires in
+    let h = import_has (c.read.ensures ∙ ap stmt_number c.in-Import.is) c.requires in
     room_first _ h.room
 
 pub stmt-import_path-requires : goal.stmt-import_path-requires
 unfolding StmtAt
 stmt-import_path-requires t c =
-    let h = import_has (sym c.kind.ensures ∙ c.in-31.is) c.requires in
+    let h = import_has (c.read.ensures ∙ ap stmt_number c.in-Import.is) c.requires in
     (record {
       accepted = c.requires.accepted;
       tree = h.tree.1;
@@ -1711,23 +1697,23 @@ stmt-import_path-requires t c =
       room = room_first _ (room_next h.room (lays c.word.ensures.laid));
     })
 
-pub stmt-word-requires-in-31 : goal.stmt-word-requires-in-31
+pub stmt-word-requires-in-Import : goal.stmt-word-requires-in-Import
 unfolding StmtAt
-stmt-word-requires-in-31 t c =
-    let h = import_has (sym c.kind.ensures ∙ c.in-31.is) c.requires in
+stmt-word-requires-in-Import t c =
+    let h = import_has (c.read.ensures ∙ ap stmt_number c.in-Import.is) c.requires in
     room_next (room_next h.room (lays c.word.ensures.laid))
     ((lays_as c.requires.accepted c.import_path.ensures).of h.tree.1 h.held.1.0)
 
 pub stmt-open-group-requires : goal.stmt-open-group-requires
 stmt-open-group-requires t c =
     let h =
-    does_has (λ e. c.in_default.in_default-own.rest.0.1 (c.kind.ensures ∙ e))
-    (λ e. c.in_default.in_default-own.rest.1 (c.kind.ensures ∙ e)) c.requires
+    does_has (λ e. omega (arith, e, c.read.ensures ∙ ap stmt_number c.in-Expr.is))
+    (λ e. omega (arith, e, c.read.ensures ∙ ap stmt_number c.in-Expr.is)) c.requires
     in
     opens_group _ h.room
 
-pub stmt-overflow_add-at-in_default : goal.stmt-overflow_add-at-in_default
-stmt-overflow_add-at-in_default t c =
+pub stmt-overflow_add-at-in-Expr : goal.stmt-overflow_add-at-in-Expr
+stmt-overflow_add-at-in-Expr t c =
     let w = stmt_whole _ _ _ c.requires.tree c.requires.held in
     omega (arith, c.requires.accepted.small, w.long, w.fits)
 
@@ -1735,7 +1721,8 @@ pub stmt-expr-requires : goal.stmt-expr-requires
 unfolding StmtAt
 stmt-expr-requires t c =
     let h =
-    does_has (λ e. c.in_default.in_default-own.rest.0.1 (c.kind.ensures ∙ e)) (λ e. c.in_default.in_default-own.rest.1 (c.kind.ensures ∙ e)) c.requires
+    does_has (λ e. omega (arith, e, c.read.ensures ∙ ap stmt_number c.in-Expr.is))
+    (λ e. omega (arith, e, c.read.ensures ∙ ap stmt_number c.in-Expr.is)) c.requires
     in (
       omega (arith, c.decreases, h.held.1.1.same),
       record {
@@ -1746,8 +1733,8 @@ stmt-expr-requires t c =
       },
     )
 
-pub stmt-overflow_add-at-in_default-2 : goal.stmt-overflow_add-at-in_default-2
-stmt-overflow_add-at-in_default-2 t c =
+pub stmt-overflow_add-at-in-Expr-2 : goal.stmt-overflow_add-at-in-Expr-2
+stmt-overflow_add-at-in-Expr-2 t c =
     let w = stmt_whole _ _ _ c.requires.tree c.requires.held in
     omega (arith, c.requires.accepted.small, w.long, w.fits)
 
@@ -1755,76 +1742,81 @@ pub stmt-semicolon-requires : goal.stmt-semicolon-requires
 unfolding StmtAt
 stmt-semicolon-requires t c =
     let h =
-    does_has (λ e. c.in_default.in_default-own.rest.0.1 (c.kind.ensures ∙ e)) (λ e. c.in_default.in_default-own.rest.1 (c.kind.ensures ∙ e)) c.requires
+    does_has (λ e. omega (arith, e, c.read.ensures ∙ ap stmt_number c.in-Expr.is))
+    (λ e. omega (arith, e, c.read.ensures ∙ ap stmt_number c.in-Expr.is)) c.requires
     in record {
-      whole = expr_whole _ _ _ h.tree.1 h.held.1.0;
+      has_kind = expr_has_kind _ _ _ h.tree.1 h.held.1.0;
       room = room_next (room_group _ h.room c.open-group.ensures.opened)
           ((lays_as c.requires.accepted c.expr.ensures).of h.tree.1 h.held.1.0);
     }
 
-pub stmt-returns-in-30 : goal.stmt-returns-in-30
-stmt-returns-in-30 t c =
-    laid_as (cc) (let_laid (sym c.kind.ensures ∙ c.in-30.is) (lays_as c.requires.accepted c.bind.ensures))
+pub stmt-returns-in-Let : goal.stmt-returns-in-Let
+stmt-returns-in-Let t c =
+    laid_as (cc) (let_laid (c.read.ensures ∙ ap stmt_number c.in-Let.is) (lays_as c.requires.accepted c.bind.ensures))
 
-pub stmt-returns-in-31 : goal.stmt-returns-in-31
-stmt-returns-in-31 t c =
-    laid_as (cc) (import_stmt_lem (sym c.kind.ensures ∙ c.in-31.is) (lays c.word.ensures.laid)
-    (lays_as c.requires.accepted c.import_path.ensures) (lays c.word-in-31.ensures.laid))
+pub stmt-returns-in-Import : goal.stmt-returns-in-Import
+stmt-returns-in-Import t c =
+    laid_as (cc) (import_stmt_lem (c.read.ensures ∙ ap stmt_number c.in-Import.is) (lays c.word.ensures.laid)
+    (lays_as c.requires.accepted c.import_path.ensures) (lays c.word-in-Import.ensures.laid))
 
-pub stmt-returns-in_default : goal.stmt-returns-in_default
-stmt-returns-in_default t c =
-    laid_as (cc) (does_laid (λ e. c.in_default.in_default-own.rest.0.1 (c.kind.ensures ∙ e))
-    (λ e. c.in_default.in_default-own.rest.1 (c.kind.ensures ∙ e)) c.open-group.ensures
+pub stmt-returns-in-Expr : goal.stmt-returns-in-Expr
+stmt-returns-in-Expr t c =
+    laid_as (cc) (does_laid (λ e. omega (arith, e, c.read.ensures ∙ ap stmt_number c.in-Expr.is))
+    (λ e. omega (arith, e, c.read.ensures ∙ ap stmt_number c.in-Expr.is)) c.open-group.ensures
     (lays_as c.requires.accepted c.expr.ensures) (lays c.semicolon.ensures.laid) c.close.ensures)
 
-pub stmts-loop-p-init : goal.stmts-loop-p-init
-stmts-loop-p-init t c = (refl, omega arith, c.requires, λ x e l. l)
+pub stmts-records-at-items-requires : goal.stmts-records-at-items-requires
+stmts-records-at-items-requires t c = stmts_in _ _ _ _ _ c.requires.held
 
 pub stmts-start-requires : goal.stmts-start-requires
-stmts-start-requires t c = (stmts_first _ c.loop-p-test.true c.loop-p.invariant.2).whole
+stmts-start-requires t c =
+    let n = next_part c.loop-at.invariant c.in-Some.ensures.steps in
+    let m = stmts_first c.loop-at.first n.before n.has in
+    m.whole
 
 pub stmts-before_stmt-requires : goal.stmts-before_stmt-requires
 stmts-before_stmt-requires t c =
-    let m = stmts_first c.loop-p.first c.loop-p-test.true c.loop-p.invariant.2 in (before_stmt_room _ m c.start.ensures)
+    let n = next_part c.loop-at.invariant c.in-Some.ensures.steps in
+    let m = stmts_first c.loop-at.first n.before n.has in
+    before_stmt_room _ m c.start.ensures
 
 pub stmts-stmt-requires : goal.stmts-stmt-requires
 stmts-stmt-requires t c =
-    let m = stmts_first c.loop-p.first c.loop-p-test.true c.loop-p.invariant.2 in
-    (omega (arith, c.decreases, m.least, c.loop-p.invariant.1), stmt_has _ m c.start.ensures (lays c.before_stmt.ensures.laid))
+    let n = next_part c.loop-at.invariant c.in-Some.ensures.steps in
+    let m = stmts_first c.loop-at.first n.before n.has in
+    (omega (arith, c.decreases, m.least, n.far), stmt_has _ m c.start.ensures (lays c.before_stmt.ensures.laid))
 
 pub stmts-end-requires : goal.stmts-end-requires
 stmts-end-requires t c =
-    (stmts_first _ c.loop-p-test.true c.loop-p.invariant.2).whole
+    let n = next_part c.loop-at.invariant c.in-Some.ensures.steps in
+    let m = stmts_first c.loop-at.first n.before n.has in
+    m.whole
 
 pub stmts-after_stmt-requires : goal.stmts-after_stmt-requires
 stmts-after_stmt-requires t c =
-    let m = stmts_first c.loop-p.first c.loop-p-test.true c.loop-p.invariant.2 in (after_stmt_room _ m c.start.ensures c.end.ensures (lays c.before_stmt.ensures.laid)
-    (lays_as c.requires.accepted c.stmt.ensures))
+    let n = next_part c.loop-at.invariant c.in-Some.ensures.steps in
+    let m = stmts_first c.loop-at.first n.before n.has in
+    after_stmt_room _ m c.start.ensures c.end.ensures (lays c.before_stmt.ensures.laid) (lays_as c.requires.accepted c.stmt.ensures)
 
-pub stmts-past-p-requires : goal.stmts-past-p-requires
-stmts-past-p-requires t c =
-    let m = stmts_first c.loop-p.first c.loop-p-test.true c.loop-p.invariant.2 in
-    record { fits = m.whole.fits }
-
-pub stmts-loop-p-smaller : goal.stmts-loop-p-smaller
-stmts-loop-p-smaller t c =
-    let m = stmts_first c.loop-p.first c.loop-p-test.true c.loop-p.invariant.2 in
-    omega (arith, m.least, m.whole.long, c.past-p.ensures, c.loop-p-test.true)
-
-pub stmts-loop-p-preserved : goal.stmts-loop-p-preserved
-stmts-loop-p-preserved t c =
-    let m = stmts_first c.loop-p.first c.loop-p-test.true c.loop-p.invariant.2 in (
-      c.after_stmt.ensures.same ∙ c.stmt.ensures.same ∙ c.before_stmt.ensures.same ∙ c.loop-p.invariant.0,
-      omega (arith, c.past-p.ensures, c.loop-p.invariant.1),
-      rw c.past-p.ensures (stmts_rest _ m c.start.ensures c.end.ensures (lays c.before_stmt.ensures.laid)
-          (lays_as c.requires.accepted c.stmt.ensures) (lays c.after_stmt.ensures.laid)),
-      λ x e l. c.loop-p.invariant.3 x e (stmts_more c.loop-p.first c.loop-p-test.true c.start.ensures
-          c.end.ensures (lays c.before_stmt.ensures.laid) (lays_as c.requires.accepted c.stmt.ensures)
-          (lays c.after_stmt.ensures.laid) (rw c.past-p.ensures at l)),
-    )
+pub stmts-loop-at-preserved : goal.stmts-loop-at-preserved
+stmts-loop-at-preserved t c =
+    let n = next_part c.loop-at.invariant c.in-Some.ensures.steps in
+    let m = stmts_first c.loop-at.first n.before n.has in
+    let before = lays c.before_stmt.ensures.laid in
+    let laid = lays_as c.requires.accepted c.stmt.ensures in
+    let after = lays c.after_stmt.ensures.laid in
+    record {
+      at = _;
+      far = omega (arith, n.far);
+      left_is = n.more_is;
+      has = stmts_rest _ m c.start.ensures c.end.ensures before laid after;
+      finishes = λ x e l. n.finishes x e (stmts_more c.loop-at.first n.before c.start.ensures c.end.ensures before laid after l);
+      same = c.after_stmt.ensures.same ∙ c.stmt.ensures.same ∙ c.before_stmt.ensures.same ∙ c.loop-at.invariant.same;
+    }
 
 pub stmts-returns : goal.stmts-returns
-stmts-returns t c = laid_all (cc) (c.loop-p.invariant.3 _ _ (stmts_none c.loop-p.first c.loop-p-test.false))
+stmts-returns t c =
+    laid_all (cc) (c.loop-at.invariant.finishes _ _ (stmts_none c.loop-at.first (none_left c.loop-at.invariant c.in-None.ensures.steps.0)))
 
 pub tail-loop-n-init : goal.tail-loop-n-init
 tail-loop-n-init t c =
@@ -1976,7 +1968,8 @@ list-returns t c =
     laid_as (cc) (record {
       of =
           λ x a.
-          (lays_each ExprAt grouped_rule _ (λ p low high x h. (omega (arith, c.decreases, low, high, a.1.2.same), h)) (λ p x y r. r) c.requires.accepted c.separated.ensures).of
+          (lays_each ExprAt grouped_rule _ (λ p low high x h. (omega (arith, c.decreases, low, high, a.1.2.same), h)) (λ p x y r. r)
+          c.requires.accepted c.separated.ensures).of
           (rules.grouped_elems _ x.1) (list_of a.1.0.head (grouped_elems_lem _ _ _ _ x.1 a.1.1)) x.0
           (c.end.ensures ∙ a.0.end);
     })

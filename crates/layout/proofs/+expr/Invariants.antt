@@ -1,6 +1,6 @@
 use Prim.Native.Nat.{◌+◌, ℕ, ◌*◌, ◌<◌, ◌-◌, ◌≤◌}
 use mathlib.Core.Path.{◌≡◌}
-use Rattle.layout.proofs.Lays.{LaysAll}
+use Rattle.layout.proofs.Walking.{Walking}
 use Rattle.tree.specs.At.{ExprAt, PartsAt, StmtsAt}
 use Rattle.layout.specs.Layout as rules
 use Rattle.image.specs.Bytes.{be32}
@@ -9,9 +9,6 @@ use Rattle.ast.specs.Syntax.{Expr}
 use Rattle.layout.specs.Forms.{stmts_from}
 use Rattle.layout.proofs.Operands.{Going}
 use lib.ListN.{get_or}
-use mathlib.Core.List.{List}
-use Rattle.acts.specs.declared.Cursor.{Cursor}
-use Rattle.layout.specs.Promises.{HasAllIn}
 use Rattle.acts.specs.Act.{Act}
 use Rattle.acts.specs.Laid.{Room}
 use Rattle.layout.specs.Chains.{Above, grown}
@@ -98,32 +95,26 @@ decreases-stmts l = 16 * (l.to - l.from) + 2
 abbrev pub decreases-tail : goal.decreases-tail
 decreases-tail l = 16 * be32 l.parsed.now.image.now l.at + 6
 
-abbrev pub invariant-parts-loop-p : goal.invariant-parts-loop-p
-invariant-parts-loop-p l = (l.state.store.ghost_name ≡ l.initial.state.store.ghost_name)
-    × (l.from ≤ l.p)
-    × HasAllIn PartsAt rules.parts_rule l.parsed.source.now l.parsed.image.now l.p l.to l.state.cursor
-    × ((x : List ℕ) (e : Cursor) → LaysAll PartsAt rules.parts_rule l.parsed.source.now l.parsed.image.now l.p l.to l.state.store.now l.state.cursor x e → LaysAll PartsAt rules.parts_rule l.parsed.source.now l.parsed.image.now l.from l.to l.initial.state.store.now l.initial.state.cursor x e)
+abbrev pub invariant-parts-loop-at : goal.invariant-parts-loop-at
+invariant-parts-loop-at l =
+    Walking PartsAt rules.parts_rule rules.parts_rule l.parsed l.from l.to l.at-iterator l.initial.state l.state
 
-abbrev pub decreases-parts-loop-p : goal.decreases-parts-loop-p
-decreases-parts-loop-p l = l.to - l.p
-
-abbrev pub invariant-stmts-loop-p : goal.invariant-stmts-loop-p
-invariant-stmts-loop-p l = (l.state.store.ghost_name ≡ l.initial.state.store.ghost_name)
-    × (l.from ≤ l.p)
-    × HasAllIn StmtsAt (stmts_from l.first) l.parsed.source.now l.parsed.image.now l.p l.to l.state.cursor
-    × ((x : List ℕ) (e : Cursor) → LaysAll StmtsAt (stmts_from l.first) l.parsed.source.now l.parsed.image.now l.p l.to l.state.store.now l.state.cursor x e
-    → LaysAll StmtsAt (stmts_from l.initial.first) l.parsed.source.now l.parsed.image.now l.from l.to l.initial.state.store.now l.initial.state.cursor x e)
-
-abbrev pub decreases-stmts-loop-p : goal.decreases-stmts-loop-p
-decreases-stmts-loop-p l = l.to - l.p
+abbrev pub invariant-stmts-loop-at : goal.invariant-stmts-loop-at
+invariant-stmts-loop-at l =
+    Walking StmtsAt (stmts_from l.initial.first) (stmts_from l.first) l.parsed l.from l.to l.at-iterator l.initial.state l.state
 
 abbrev pub invariant-tail-loop-n : goal.invariant-tail-loop-n
-invariant-tail-loop-n l = (l.state.store.ghost_name ≡ l.initial.state.store.ghost_name)
+invariant-tail-loop-n l =
+    let s = l.parsed.source.now in
+    let b = l.parsed.image.now in
+    (l.state.store.ghost_name ≡ l.initial.state.store.ghost_name)
     × (l.n ≤ 64)
     × ((i : ℕ) → i < l.n → get_or l.ops i 0 ≡ l.at + 13 * i)
-    × ((e : Expr) × ExprAt l.parsed.source.now l.parsed.image.now e l.at × (q : ℕ) × (x : Expr) × Above q l.parsed.source.now l.parsed.image.now e l.at (l.at + 13 * l.n) x)
-    × ((q : ℕ) (e : Expr) → ExprAt l.parsed.source.now l.parsed.image.now e l.at → (x : Expr) (a : Above q l.parsed.source.now l.parsed.image.now e l.at l.left x) (h : Act)
-    → Room (grown a (rules.leftmost h)).ops l.initial.state.cursor → Going q l.parsed.source.now l.parsed.image.now e l.at (l.at + 13 * l.n) l.first (grown a (rules.leftmost h)) l.initial.state.store.now l.initial.state.cursor l.state.store.now l.state.cursor)
+    × ((e : Expr) × ExprAt s b e l.at × (q : ℕ) × (x : Expr) × Above q s b e l.at (l.at + 13 * l.n) x)
+    × ((q : ℕ) (e : Expr) → ExprAt s b e l.at → (x : Expr) (a : Above q s b e l.at l.left x) (h : Act)
+    → Room (grown a (rules.leftmost h)).ops l.initial.state.cursor
+    → Going q s b e l.at (l.at + 13 * l.n) l.first (grown a (rules.leftmost h)) l.initial.state.store.now l.initial.state.cursor
+    l.state.store.now l.state.cursor)
 
 abbrev pub decreases-list : goal.decreases-list
 decreases-list l = 16 * be32 l.parsed.now.image.now l.at + 7

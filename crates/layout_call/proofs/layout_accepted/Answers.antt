@@ -1,43 +1,38 @@
-use Rattle.std.proofs.Common.{sym, ap, ◌∙◌, not, arith}
-use Rattle.layout_call.proofs.Ends.{fits_told, fits_unless, fit_cells, needed_is, ends_unfit, ends_short}
+use Rattle.layout_call.proofs.Ends.{fits_unless, goes, ends_unfit, ends_short, is_roomy}
 use Rattle.layout_call.proofs.layout_accepted.Goals as goal
 
 pub returns-then-not-state_fits : goal.returns-then-not-state_fits
 returns-then-not-state_fits c =
-    let file = c.args.file in
-    let told =
-    fits_told file.parsed.source.now file.parsed.image.now c.args.state c.args.args c.args.store.now file.accepts _ _
-    c.count_declarations-declarations.ensures c.state_fits.ensures
-    in
     rw c.at.ensures
-    (ends_unfit file.parsed.source.now file.parsed.image.now c.args.state c.args.args c.args.store.now file.accepts _ told (ap not c.if-not-state_fits.true))
+    (ends_unfit _ _ c.args.state c.args.args c.args.store.now c.args.file.accepts
+    _ _ c.count_declarations.ensures c.state_fits.ensures c.if-not-state_fits.true)
 
-pub cursor_of-requires : goal.cursor_of-requires
-cursor_of-requires c =
-    let file = c.args.file in
-    fit_cells file.parsed.source.now file.parsed.image.now c.args.state c.args.args c.args.store.now file.accepts
-    (fits_unless file.parsed.source.now file.parsed.image.now c.args.state c.args.args c.args.store.now file.accepts _ _
-    c.count_declarations-declarations.ensures c.state_fits.ensures c.if-not-state_fits.false)
-
-pub returns-then-rows-needed : goal.returns-then-rows-needed
-returns-then-rows-needed c =
-    let file = c.args.file in
+pub invariant_of-call : goal.invariant_of-call
+invariant_of-call c =
     let fits =
-    fits_unless file.parsed.source.now file.parsed.image.now c.args.state c.args.args c.args.store.now file.accepts _ _
-    c.count_declarations-declarations.ensures c.state_fits.ensures c.if-not-state_fits.false
+    fits_unless _ _ c.args.state c.args.args c.args.store.now c.args.file.accepts
+    _ _ c.count_declarations.ensures c.state_fits.ensures c.if-not-state_fits.false
     in
-    let due = needed_is file.parsed.source.now file.parsed.image.now c.args.state c.args.args c.args.store.now file.accepts fits in
-    rw c.at-then-rows-needed.ensures
-    (ends_short file.parsed.source.now file.parsed.image.now c.args.state c.args.args c.args.store.now file.accepts fits
-    c.rows_wanted-needed.result ((rw c.cursor_of.ensures at c.rows_wanted-needed.ensures).short c.if-rows-needed.true ∙ sym due)
-    c.if-rows-needed.true)
+    record { goes = goes _ _ c.args.state c.args.args c.args.store.now c.args.file.accepts fits }
 
-pub laid-requires : goal.laid-requires
-laid-requires c =
-    let file = c.args.file in
+pub returns-in-Some : goal.returns-in-Some
+returns-in-Some c =
     let fits =
-    fits_unless file.parsed.source.now file.parsed.image.now c.args.state c.args.args c.args.store.now file.accepts _ _
-    c.count_declarations-declarations.ensures c.state_fits.ensures c.if-not-state_fits.false
+    fits_unless _ _ c.args.state c.args.args c.args.store.now c.args.file.accepts
+    _ _ c.count_declarations.ensures c.state_fits.ensures c.if-not-state_fits.false
     in
-    let due = needed_is file.parsed.source.now file.parsed.image.now c.args.state c.args.args c.args.store.now file.accepts fits in
-    (fits, record { fits = omega (arith, due, (rw c.cursor_of.ensures at c.rows_wanted-needed.ensures).enough c.if-rows-needed.false) })
+    rw c.at-in-Some.ensures
+    (ends_short _ _ c.args.state c.args.args c.args.store.now c.args.file.accepts fits _ c.in-Some.ensures)
+
+pub laid-requires-clause-fits : goal.laid-requires-clause-fits
+laid-requires-clause-fits c =
+    fits_unless _ _ c.args.state c.args.args c.args.store.now c.args.file.accepts
+    _ _ c.count_declarations.ensures c.state_fits.ensures c.if-not-state_fits.false
+
+pub laid-requires-clause-room : goal.laid-requires-clause-room
+laid-requires-clause-room c =
+    let fits =
+    fits_unless _ _ c.args.state c.args.args c.args.store.now c.args.file.accepts
+    _ _ c.count_declarations.ensures c.state_fits.ensures c.if-not-state_fits.false
+    in
+    is_roomy _ _ c.args.state c.args.args c.args.store.now c.args.file.accepts fits c.in_default.ensures

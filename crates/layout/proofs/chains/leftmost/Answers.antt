@@ -3,8 +3,11 @@ use Prim.Native.Nat.{◌+◌, ◌*◌}
 use mathlib.Core.Path.{◌≡◌, refl, sym, ◌∙◌}
 use lib.ListN.{length, length-set}
 use Rattle.tree.specs.At.{ExprAt}
+use Rattle.layout.specs.declared.kinds.Expr.TheVariants as exprs
+use Rattle.layout.proofs.KindTests.{undiffering_expr, differing_expr}
 use Rattle.layout.specs.Chains.{top, up}
 use Rattle.layout.proofs.Places.{expr_whole}
+use Rattle.layout.proofs.ExprForms.{expr_has_kind}
 use Rattle.layout.proofs.Ranks.{rank_same, rank_apart}
 use Rattle.layout.proofs.Operands.{down, stop_kind, stop_op, symbol_of, filled_more, room_left}
 use Rattle.layout.proofs.chains.leftmost.Goals as goal
@@ -24,17 +27,18 @@ loop-q-init c = let h : length c.args.ops.now ≡ 64 = c.requires.ops_len in
       λ s t a e. (t.1.0, up refl e a top, a.1.0),
     )
 
-pub kind-requires : goal.kind-requires
-kind-requires c =
+pub read-requires : goal.read-requires
+read-requires c =
     let z =
     c.loop-q.invariant.5 c.requires.has_chain.source c.requires.has_chain.tree c.requires.has_chain.held c.requires.has_chain.same
     in
-    expr_whole _ _ _ z.0 z.2
+    expr_has_kind _ _ _ z.0 z.2
 
 pub precedence-requires : goal.precedence-requires
 precedence-requires c =
     let z = c.loop-q.invariant.5 c.requires.has_chain.source c.requires.has_chain.tree c.requires.has_chain.held c.requires.has_chain.same in
-    let w = symbol_of _ _ _ (sym c.kind.ensures ∙ c.if-kind-ne-BIN_OP.false) z.0 z.2 in record { in_image = w.operand; at_in_bounds = w.byte }
+    let w = symbol_of _ _ _ (undiffering_expr _ exprs.BinOp c.read.ensures c.ne.ensures c.if-ne.false) z.0 z.2 in
+    record { in_image = w.operand; in_bounds = w.byte; known = w.known }
 
 pub offset_bounds-ops-n : goal.offset_bounds-ops-n
 offset_bounds-ops-n c = omega (arith, c.loop-q.invariant.3)
@@ -44,7 +48,7 @@ bounds-ops-n c =
     let z = c.loop-q.invariant.5 c.requires.has_chain.source c.requires.has_chain.tree c.requires.has_chain.held c.requires.has_chain.same in
     let f =
     room_left _ _ c.requires.has_chain.tree _ _ _ _ z.0 c.requires.has_chain.held z.1 z.2
-    (sym c.kind.ensures ∙ c.if-kind-ne-BIN_OP.false) c.loop-q.invariant.1
+    (undiffering_expr _ exprs.BinOp c.read.ensures c.ne.ensures c.if-ne.false) c.loop-q.invariant.1
     in
     omega (arith, f, c.loop-q.invariant.0)
 
@@ -59,7 +63,7 @@ loop-q-preserved c =
     let z = c.loop-q.invariant.5 c.requires.has_chain.source c.requires.has_chain.tree c.requires.has_chain.held c.requires.has_chain.same in
     let f =
     room_left _ _ c.requires.has_chain.tree _ _ _ _ z.0 c.requires.has_chain.held z.1 z.2
-    (sym c.kind.ensures ∙ c.if-kind-ne-BIN_OP.false) c.loop-q.invariant.1
+    (undiffering_expr _ exprs.BinOp c.read.ensures c.ne.ensures c.if-ne.false) c.loop-q.invariant.1
     in (
       length-set c.loop-q.ops c.loop-q.n c.loop-q.p ∙ c.loop-q.invariant.0,
       omega (arith, c.loop-q.invariant.1),
@@ -68,11 +72,12 @@ loop-q-preserved c =
       filled_more c.loop-q.ops _ _ _ (omega (arith, f, c.loop-q.invariant.0)) c.loop-q.invariant.1 c.loop-q.invariant.4,
       λ s t a h.
           let y = c.loop-q.invariant.5 s t a h in
-          down s _ _ _ _ (sym c.kind.ensures ∙ c.if-kind-ne-BIN_OP.false) c.precedence.ensures (rank_same _ _ (sym c.ne.ensures ∙ c.if-ne.false)) y.1 y.2,
+          down s _ _ _ _ (undiffering_expr _ exprs.BinOp c.read.ensures c.ne.ensures c.if-ne.false) c.precedence.ensures
+          (rank_same _ _ (sym c.ne-in-loop-q.ensures ∙ c.if-ne-2.false)) y.1 y.2,
     )
 
-pub returns-then-kind-ne-BIN_OP : goal.returns-then-kind-ne-BIN_OP
-returns-then-kind-ne-BIN_OP c = record {
+pub returns-then-ne : goal.returns-then-ne
+returns-then-ne c = record {
   filled = record {
     count = c.loop-q.n;
     far = c.loop-q.invariant.1;
@@ -83,11 +88,11 @@ returns-then-kind-ne-BIN_OP c = record {
   of =
       λ s t a h.
       let z = c.loop-q.invariant.5 s t a h in
-      record { tree = z.0; above = z.1; held = z.2; stop = stop_kind s _ _ _ z.0 z.2 (λ e. c.if-kind-ne-BIN_OP.true (c.kind.ensures ∙ e)) };
+      record { tree = z.0; above = z.1; held = z.2; stop = stop_kind s _ _ _ z.0 z.2 (differing_expr _ exprs.BinOp c.read.ensures c.ne.ensures c.if-ne.true) };
 }
 
-pub returns-then-ne : goal.returns-then-ne
-returns-then-ne c =
+pub returns-then-ne-2 : goal.returns-then-ne-2
+returns-then-ne-2 c =
     record {
       filled = record { count = c.loop-q.n; far = c.loop-q.invariant.1; few = c.loop-q.invariant.3; each = c.loop-q.invariant.4 };
       further = omega (arith, c.loop-q.invariant.1, c.loop-q.invariant.2);
@@ -99,6 +104,7 @@ returns-then-ne c =
             above = z.1;
             held = z.2;
             stop =
-                stop_op s _ _ _ _ (sym c.kind.ensures ∙ c.if-kind-ne-BIN_OP.false) c.precedence.ensures z.0 (rank_apart _ _ (sym c.ne.ensures ∙ c.if-ne.true)) z.2;
+                stop_op s _ _ _ _ (undiffering_expr _ exprs.BinOp c.read.ensures c.ne.ensures c.if-ne.false) c.precedence.ensures z.0
+                (rank_apart _ _ (sym c.ne-in-loop-q.ensures ∙ c.if-ne-2.true)) z.2;
           };
     }

@@ -16,8 +16,8 @@ invariant-loop-q l = (length l.ops ≡ 64)
     × (1 ≤ l.n)
     × (l.n ≤ 64)
     × ((i : ℕ) → i < l.n → get_or l.ops i 0 ≡ l.at + 13 * i)
-    × ((s : List ℕ) (t : Span × (Expr × Span × ℕ × Expr)) → Of (four bin_op) s l.b t l.at → binop_precedence t.1.2 ≡ rank l.q
-    → (x : Expr) × Above (rank l.q) s l.b (expr t.0 (four bin_op t.1)) l.at l.p x × ExprAt s l.b x l.p)
+    × ((s : List ℕ) (t : Span × (Expr × Span × ℕ × Expr)) → Of (four bin_op) s l.parsed.image.now t l.at → binop_precedence t.1.2 ≡ rank l.q
+    → (x : Expr) × Above (rank l.q) s l.parsed.image.now (expr t.0 (four bin_op t.1)) l.at l.p x × ExprAt s l.parsed.image.now x l.p)
 
 abbrev pub decreases-loop-q : goal.decreases-loop-q
-decreases-loop-q l = length l.b - l.p
+decreases-loop-q l = length l.parsed.image.now - l.p

@@ -10,7 +10,8 @@ pop_whitespace-gap-requires c = (room_asked _ _ (room_first _ (rw (
   ← c.start.ensures,
   ← c.requires.held.0.which.byte,
   ← c.payload.ensures,
-  ← c.symbol-k.ensures,
+  ← c.of.ensures,
+  ← c.symbol-symbol.ensures,
 ) at c.requires.room)))
 
 pub between-requires : goal.between-requires
@@ -23,7 +24,8 @@ between-requires c =
             ← c.start.ensures,
             ← c.requires.held.0.which.byte,
             ← c.payload.ensures,
-            ← c.symbol-k.ensures,
+            ← c.of.ensures,
+            ← c.symbol-symbol.ensures,
           ) at c.requires.room)) (lays_asking c.pop_whitespace-gap.ensures.laid);
       small = tt;
     }
@@ -36,7 +38,8 @@ word-requires c =
       ← c.start.ensures,
       ← c.requires.held.0.which.byte,
       ← c.payload.ensures,
-      ← c.symbol-k.ensures,
+      ← c.of.ensures,
+      ← c.symbol-symbol.ensures,
     ) at c.requires.room) (lays_asks _ (lays_asking c.pop_whitespace-gap.ensures.laid) (lays c.between.ensures.laid)))
 
 pub word-requires-2 : goal.word-requires-2
@@ -47,7 +50,8 @@ word-requires-2 c =
       ← c.start.ensures,
       ← c.requires.held.0.which.byte,
       ← c.payload.ensures,
-      ← c.symbol-k.ensures,
+      ← c.of.ensures,
+      ← c.symbol-symbol.ensures,
     ) at c.requires.room) (lays_asks _ (lays_asking c.pop_whitespace-gap.ensures.laid) (lays c.between.ensures.laid)))
     (lays c.word.ensures.laid)
 
@@ -57,7 +61,7 @@ returns c =
     laid_as (cc) (record {
       of =
           λ x a. rw
-          (← a.0.head.start, ← c.start.ensures, ← a.0.which.byte, ← c.payload.ensures, ← c.symbol-k.ensures)
+          (← a.0.head.start, ← c.start.ensures, ← a.0.which.byte, ← c.payload.ensures, ← c.of.ensures, ← c.symbol-symbol.ensures)
           (lays_then (lays_asks _ (lays_asking c.pop_whitespace-gap.ensures.laid) (lays c.between.ensures.laid))
           (lays_then (lays c.word.ensures.laid) (lays c.word-2.ensures.laid)));
     })

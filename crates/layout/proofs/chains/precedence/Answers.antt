@@ -2,4 +2,4 @@ use mathlib.Core.Path.{◌∙◌}
 use Rattle.layout.proofs.chains.precedence.Goals as goal
 
 pub returns : goal.returns
-returns c = c.binop_precedence.ensures ∙ rw (c.payload.ensures, c.second.ensures)
+returns c = c.precedence.ensures ∙ rw (c.of.ensures, c.payload.ensures, c.second.ensures)

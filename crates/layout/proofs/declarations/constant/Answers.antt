@@ -11,7 +11,11 @@ second-p-requires c = within (ident_whole c.requires.held.1)
 
 pub third-q-requires : goal.third-q-requires
 unfolding DeclarationAt
-third-q-requires c = record { second_in_image = within (ident_whole c.requires.held.1); third_in_image = within (type_whole _ _ _ c.requires.tree.1 c.requires.held.2) }
+third-q-requires c =
+    record {
+      second_in_image = within (ident_whole c.requires.held.1);
+      third_in_image = within (type_whole _ _ _ c.requires.tree.1 c.requires.held.2);
+    }
 
 pub declares-requires : goal.declares-requires
 unfolding DeclarationAt rules.declaration

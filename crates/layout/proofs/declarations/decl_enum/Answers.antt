@@ -1,5 +1,5 @@
 use mathlib.Core.Path.{◌∙◌}
-use Rattle.acts.proofs.Laws.{lays, room_first, room_next, lays_then}
+use Rattle.acts.proofs.Laws.{room_first, room_next, room_assoc, lays_then, lays_assoc}
 use Rattle.layout.specs.Layout as rules
 use Rattle.tree.specs.At.{DeclarationAt}
 use Rattle.layout.proofs.Places.{within, head_whole, ident_whole, maybe_list}
@@ -9,38 +9,23 @@ use Rattle.layout.proofs.Runs.{list_of, variant_elems_lem}
 use Rattle.layout.proofs.Lays.{lays_as, laid_as}
 use Rattle.layout.proofs.declarations.decl_enum.Goals as goal
 
-pub second-p-requires : goal.second-p-requires
-unfolding DeclarationAt
-second-p-requires c = within (ident_whole c.requires.held.1)
-
 pub third-q-requires : goal.third-q-requires
 unfolding DeclarationAt
-third-q-requires c = record { second_in_image = within (ident_whole c.requires.held.1); third_in_image = maybe_list _ _ _ c.requires.tree.1 c.requires.held.2 }
+third-q-requires c =
+    record {
+      second_in_image = within (ident_whole c.requires.held.1);
+      third_in_image = maybe_list _ _ _ c.requires.tree.1 c.requires.held.2;
+    }
 
-pub declares-requires : goal.declares-requires
+pub declares_type-requires : goal.declares_type-requires
 unfolding DeclarationAt rules.declaration
-declares-requires c =
-    record { accepted = c.requires.accepted; tree = c.requires.tree.0; held = c.requires.held.1; room = room_first _ c.requires.room }
-
-pub some_type_params-requires : goal.some_type_params-requires
-unfolding DeclarationAt rules.declaration
-some_type_params-requires c =
-    rw c.second-p.ensures (record {
+declares_type-requires c =
+    record {
       accepted = c.requires.accepted;
-      tree = c.requires.tree.1;
-      held = c.requires.held.2;
-      room =
-          room_first _
-          (room_next c.requires.room ((lays_as c.requires.accepted c.declares.ensures).of c.requires.tree.0 c.requires.held.1));
-    })
-
-pub word-requires : goal.word-requires
-unfolding DeclarationAt rules.declaration
-word-requires c =
-    room_first _ (room_next
-    (room_next c.requires.room ((lays_as c.requires.accepted c.declares.ensures).of c.requires.tree.0 c.requires.held.1))
-    ((lays_as c.requires.accepted c.some_type_params.ensures).of c.requires.tree.1
-    (rw c.second-p.ensures c.requires.held.2)))
+      tree = (c.requires.tree.0, c.requires.tree.1);
+      held = (c.requires.held.1, c.requires.held.2);
+      room = room_first _ (room_assoc _ _ _ (room_assoc _ _ _ c.requires.room));
+    }
 
 pub end-requires : goal.end-requires
 unfolding DeclarationAt
@@ -58,11 +43,8 @@ separated-requires c =
       span = c.requires.tree.2;
       ended = (rw c.third-q.ensures at c.end.ensures) ∙ c.requires.held.3.end;
       room =
-          room_next (room_next
-          (room_next c.requires.room ((lays_as c.requires.accepted c.declares.ensures).of c.requires.tree.0 c.requires.held.1))
-          ((lays_as c.requires.accepted c.some_type_params.ensures).of c.requires.tree.1
-          (rw c.second-p.ensures c.requires.held.2)))
-          (lays c.word.ensures.laid);
+          room_next (room_assoc _ _ _ (room_assoc _ _ _ c.requires.room))
+          ((lays_as c.requires.accepted c.declares_type.ensures).of (c.requires.tree.0, c.requires.tree.1) (c.requires.held.1, c.requires.held.2));
     }))
 
 pub returns : goal.returns
@@ -70,9 +52,9 @@ unfolding DeclarationAt rules.declaration
 returns c =
     laid_as (cc) (record {
       of =
-          λ x a. lays_then ((lays_as c.requires.accepted c.declares.ensures).of x.0 a.1) (lays_then
-          ((lays_as c.requires.accepted c.some_type_params.ensures).of x.1 (rw c.second-p.ensures a.2))
-          (lays_then (lays c.word.ensures.laid) ((rw c.third-q.ensures
+          λ x a.
+          lays_assoc _ _ _ (lays_assoc _ _ _
+          (lays_then ((lays_as c.requires.accepted c.declares_type.ensures).of (x.0, x.1) (a.1, a.2)) ((rw c.third-q.ensures
           at (lays_each VariantAt variant_rule _ (λ p low high x h. h) (λ p x y r. r) c.requires.accepted c.separated.ensures)).of
           (rules.variant_elems _ x.3) (list_of a.3 (variant_elems_lem _ _ _ _ x.3 a.4)) x.2
           ((rw c.third-q.ensures at c.end.ensures) ∙ a.3.end))));

@@ -18,8 +18,8 @@ is_absent-requires c = maybe_ident _ _ _ c.requires.tree c.requires.held
 pub returns-then-is_absent : goal.returns-then-is_absent
 returns-then-is_absent c = laid_as (cc) (no_shebang (absent c.is_absent.ensures c.if-is_absent.true))
 
-pub overflow_add-from : goal.overflow_add-from
-overflow_add-from c =
+pub overflow_add-from-2 : goal.overflow_add-from-2
+overflow_add-from-2 c =
     let h = has_ident (present c.is_absent.ensures c.if-is_absent.false) c.requires in
     omega (arith, c.requires.accepted.small, h.held.head.fits, h.held.starts, h.held.ends)
 

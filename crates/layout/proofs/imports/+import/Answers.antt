@@ -7,7 +7,8 @@ use Rattle.tree.specs.At.{ImportAt}
 use Rattle.layout.specs.Layout.{import_path}
 use Rattle.layout.proofs.Listing.{has_each, lays_each}
 use Rattle.layout.proofs.Places.{maybe_path, group_within, absent, present}
-use Rattle.layout.proofs.Groups.{import_parts, import_laid, no_group_lem, single_true, single_false, group_whole, group_next, group_list, group_first, one_import, more_imports}
+use Rattle.layout.proofs.Groups.{import_parts, import_laid, no_group_lem, single_true, single_false, group_whole, group_next, group_list}
+use Rattle.layout.proofs.Groups.{group_first, one_import, more_imports}
 use Rattle.image.specs.Read.{stop_at}
 use Rattle.layout.proofs.imports.+import.Goals as goal
 
@@ -18,7 +19,12 @@ pub import_group-returns-then-is_absent : goal.import_group-returns-then-is_abse
 import_group-returns-then-is_absent t c = laid_as (cc) (no_group_lem (absent c.is_absent.ensures c.if-is_absent.true))
 
 pub import_group-is_single-requires : goal.import_group-is_single-requires
-import_group-is_single-requires t c = record { whole = group_whole _ _ _ (present c.is_absent.ensures c.if-is_absent.false) c.requires.tree c.requires.held; in_image = group_next _ _ _ (present c.is_absent.ensures c.if-is_absent.false) c.requires.tree c.requires.held }
+import_group-is_single-requires t c =
+    let there = present c.is_absent.ensures c.if-is_absent.false in
+    record {
+      whole = group_whole _ _ _ there c.requires.tree c.requires.held;
+      in_image = group_next _ _ _ there c.requires.tree c.requires.held;
+    }
 
 pub import_group-overflow_add-at : goal.import_group-overflow_add-at
 import_group-overflow_add-at t c =
@@ -52,7 +58,8 @@ import_group-separated-requires t c =
 pub import_group-returns : goal.import_group-returns
 import_group-returns t c =
     laid_as (cc) (more_imports (present c.is_absent.ensures c.if-is_absent.false) (single_false c.is_single.ensures c.if-is_single.false)
-    (rw c.end.ensures at (lays_each ImportAt import_path _ (λ p low high x h. (omega (arith, c.decreases, low, high), h)) (λ p x y r. r) c.requires.accepted c.separated.ensures)))
+    (rw c.end.ensures at
+    (lays_each ImportAt import_path _ (λ p low high x h. (omega (arith, c.decreases, low, high), h)) (λ p x y r. r) c.requires.accepted c.separated.ensures)))
 
 pub import_path-second-p-requires : goal.import_path-second-p-requires
 import_path-second-p-requires t c = let w = import_parts c.requires in maybe_path _ _ _ w.tree.0 w.held.1

@@ -22,7 +22,11 @@ overflow_sub-size c =
     omega (arith, o, c.start-from.ensures, c.end-to.ensures, c.requires.held.1.start, c.requires.held.1.end)
 
 pub push-requires : goal.push-requires
-push-requires c = record { room = rw (c.start-from.ensures, c.end-to.ensures, c.requires.held.1.start, c.requires.held.1.end) c.requires.room; small = omega arith }
+push-requires c =
+    record {
+      room = rw (c.start-from.ensures, c.end-to.ensures, c.requires.held.1.start, c.requires.held.1.end) c.requires.room;
+      small = omega arith;
+    }
 
 pub returns : goal.returns
 returns c =

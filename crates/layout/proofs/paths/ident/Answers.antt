@@ -6,7 +6,14 @@ use Rattle.layout.proofs.Lays.{laid_as}
 use Rattle.layout.proofs.paths.ident.Goals as goal
 
 pub push-requires : goal.push-requires
-push-requires c = record { room = ident_room c.requires.held c.num16.ensures.same refl (rw c.past.ensures) c.requires.room; small = (omega (arith, c.past.ensures, c.requires.held.head.fits, c.requires.accepted.small), omega (arith, c.num16.ensures.same, c.num16.ensures.small)) }
+push-requires c =
+    record {
+      room = ident_room c.requires.held c.num16.ensures.same refl (rw c.past.ensures) c.requires.room;
+      small = (
+        omega (arith, c.past.ensures, c.requires.held.head.fits, c.requires.accepted.small),
+        omega (arith, c.num16.ensures.same, c.num16.ensures.small),
+      );
+    }
 
 pub returns : goal.returns
 returns c =

@@ -7,5 +7,5 @@ push-requires c = record { room = rw c.if-breaks.true at c.requires; small = tt 
 pub returns-then-breaks : goal.returns-then-breaks
 returns-then-breaks c = record { laid = rw c.if-breaks.true c.push.ensures.laid; same = cc }
 
-pub returns : goal.returns
-returns c = record { laid = rw c.if-breaks.false laid_skip; same = cc }
+pub returns-else-breaks : goal.returns-else-breaks
+returns-else-breaks c = record { laid = rw c.if-breaks.false laid_skip; same = cc }

@@ -21,7 +21,10 @@ gap-requires-then-commas c = (room_first _ (room_past (rw (c.if-first.false, c.i
 pub push-requires : goal.push-requires
 unfolding before_elem
 push-requires c =
-    record { room = room_past (room_past (rw (c.if-first.false, c.if-commas.true) at c.requires) c.word.ensures.laid) c.gap-then-commas.ensures.laid; small = tt }
+    record {
+      room = room_past (room_past (rw (c.if-first.false, c.if-commas.true) at c.requires) c.word.ensures.laid) c.gap-then-commas.ensures.laid;
+      small = tt;
+    }
 
 pub returns-then-commas : goal.returns-then-commas
 unfolding before_elem
@@ -39,7 +42,12 @@ gap-requires-2 c = (room_first _ (room_past (rw (c.if-first.false, c.if-commas.f
 pub push-requires-2 : goal.push-requires-2
 unfolding before_elem
 push-requires-2 c =
-    record { room = room_past (room_past (rw (c.if-first.false, c.if-commas.false) at c.requires) (laid_skip {s = c.args.state.now.store.now})) c.gap-2.ensures.laid; small = tt }
+    record {
+      room =
+          room_past
+          (room_past (rw (c.if-first.false, c.if-commas.false) at c.requires) (laid_skip {s = c.args.state.now.store.now})) c.gap-2.ensures.laid;
+      small = tt;
+    }
 
 pub returns : goal.returns
 unfolding before_elem

@@ -1,45 +1,28 @@
-use Rattle.layout_call.proofs.Standing.{first_in, tree_in, starts_first, another, no_more, record_in, goes_on, few_declarations}
-use Rattle.image.specs.Read.{stop_at}
+use mathlib.Core.Logic.{inl}
+use mathlib.Core.Path.{ap, ◌∙◌}
 use native.Mathlib.Omega.{arith}
-use mathlib.Core.Path.{sym, ap, ◌∙◌}
+use lib.ListN.{length}
+use Rattle.std.proofs.lemmas.Iterator.Consumers.{YieldsList-from_first, count_from_yields_List}
+use Rattle.comments.specs.Records.{offsets}
+use Rattle.layout_call.proofs.Standing.{first_in, tree_in, all_records_in, as_many_records, few_declarations}
 use Rattle.layout_call.proofs.steps.count_declarations.Goals as goal
 
-pub past-end-requires : goal.past-end-requires
-past-end-requires c = tree_in c.args.file.accepts
+pub second-from-requires : goal.second-from-requires
+second-from-requires c = first_in c.args.file.accepts
 
-pub second-p-requires : goal.second-p-requires
-second-p-requires c = first_in c.args.file.accepts
+pub past-to-requires : goal.past-to-requires
+past-to-requires c = tree_in c.args.file.accepts
 
-pub loop-p-init : goal.loop-p-init
-loop-p-init c = (omega arith, c.second-p.ensures ∙ sym (starts_first c.args.file.accepts), c.past-end.ensures)
+pub records-requires : goal.records-requires
+records-requires c = rw (c.second-from.ensures, c.past-to.ensures) (all_records_in c.args.file.accepts)
 
-pub past-p-requires : goal.past-p-requires
-past-p-requires c =
-    rw c.loop-p.invariant.1 (record_in c.args.file.accepts c.loop-p.count
-    (another c.args.file.accepts c.loop-p.count (rw (c.loop-p.invariant.1, c.loop-p.invariant.2) at c.loop-p-test.true)))
-
-pub overflow_add-count : goal.overflow_add-count
-overflow_add-count c = omega (arith, few_declarations c.args.file.accepts, c.loop-p.invariant.0)
-
-pub loop-p-smaller : goal.loop-p-smaller
-loop-p-smaller c =
-    omega (
-      arith,
-      another c.args.file.accepts c.loop-p.count
-          (rw (c.loop-p.invariant.1, c.loop-p.invariant.2) at c.loop-p-test.true),
-    )
-
-pub loop-p-preserved : goal.loop-p-preserved
-loop-p-preserved c =
-    let h =
-    another c.args.file.accepts c.loop-p.count
-    (rw (c.loop-p.invariant.1, c.loop-p.invariant.2) at c.loop-p-test.true)
-    in (
-      omega (arith, h),
-      c.past-p.ensures ∙ ap (stop_at _) c.loop-p.invariant.1 ∙ goes_on c.args.file.accepts c.loop-p.count h,
-      c.loop-p.invariant.2,
-    )
+pub count-requires-clause-fits : goal.count-requires-clause-fits
+count-requires-clause-fits c =
+    let given = rw (c.second-from.ensures, c.past-to.ensures) at (ap length c.records.ensures) in
+    inl (omega (arith, given, as_many_records c.args.file.accepts, few_declarations c.args.file.accepts))
 
 pub returns : goal.returns
 returns c =
-    no_more c.args.file.accepts c.loop-p.count c.loop-p.invariant.0 (rw (c.loop-p.invariant.1, c.loop-p.invariant.2) at c.loop-p-test.false)
+    let given = rw (c.second-from.ensures, c.past-to.ensures) at c.records.ensures in
+    count_from_yields_List _ c.count.result c.count.ensures.ran (YieldsList-from_first (λ x. x) offsets _ given)
+    ∙ as_many_records c.args.file.accepts

@@ -1,21 +1,21 @@
-use Rattle.std.proofs.Common.{sym, ap, ◌∙◌, arith}
-use Rattle.image.specs.Read.{stop_at}
-use Rattle.layout_call.proofs.Standing.{first_in, starts_first, record_in, goes_on}
+use mathlib.Core.Path.{sym, ◌∙◌}
+use Rattle.std.proofs.lemmas.Iterator.Adapters.{option_map_id}
+use Rattle.std.proofs.lemmas.Iterator.Consumers.{YieldsList-from_first, nth_from_yields_List}
+use Rattle.comments.specs.Records.{offsets}
+use Rattle.layout_call.proofs.Standing.{first_in, tree_in, all_records_in, record_at}
 use Rattle.layout_call.proofs.steps.declaration_at.Goals as goal
 
-pub second-p-requires : goal.second-p-requires
-second-p-requires c = first_in c.args.file.accepts
+pub second-from-requires : goal.second-from-requires
+second-from-requires c = first_in c.args.file.accepts
 
-pub loop-init : goal.loop-init
-loop-init c = (omega arith, c.second-p.ensures ∙ sym (starts_first c.args.file.accepts))
+pub past-to-requires : goal.past-to-requires
+past-to-requires c = tree_in c.args.file.accepts
 
-pub past-p-requires : goal.past-p-requires
-past-p-requires c =
-    rw c.loop.invariant.1 (record_in c.args.file.accepts c.loop.counter (omega (arith, c.requires, c.loop-test.true)))
+pub records-requires : goal.records-requires
+records-requires c = rw (c.second-from.ensures, c.past-to.ensures) (all_records_in c.args.file.accepts)
 
-pub loop-preserved : goal.loop-preserved
-loop-preserved c = (
-  omega (arith, c.loop-test.true),
-  c.past-p.ensures ∙ ap (stop_at _) c.loop.invariant.1
-      ∙ goes_on c.args.file.accepts c.loop.counter (omega (arith, c.requires, c.loop-test.true)),
-)
+pub returns : goal.returns
+returns c =
+    let given = rw (c.second-from.ensures, c.past-to.ensures) at c.records.ensures in
+    let found = sym (option_map_id c.nth.result) ∙ nth_from_yields_List _ c.nth.new.self c.args.k c.nth.ensures.ran (YieldsList-from_first (λ x. x) offsets _ given) in
+    (rw (found, c.past-to.ensures) at c.unwrap_or.ensures) ∙ record_at c.args.file.accepts c.args.k c.requires

@@ -25,5 +25,7 @@ loop-row-preserved c =
     refl (eqb-false _ 10 (sym c.if-has_kind.ensures)) c.own_width.ensures.0 c.own_width.ensures.1)
 
 pub returns : goal.returns
-returns c =
-    ended _ _ _ _ _ _ _ c.requires c.loop-row.invariant _ c.loop-row-test.false c.clip.ensures
+returns c = (
+  ended _ _ _ _ _ _ _ c.requires c.loop-row.invariant c.loop-row-test.false (omega (arith, c.if-room-sum-2.false)),
+  omega (arith, c.if-room-sum-2.false),
+)

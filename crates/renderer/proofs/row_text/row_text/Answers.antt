@@ -12,8 +12,9 @@ returns c =
     let e =
     part_text c.origin_text-text.result.now c.place-2.result c.place-3.result c.min-start.result c.min-end.result c.min-start.ensures
     c.min-end.ensures
-    in (
-      e
-          ∙ rw (c.origin_text-text.ensures, c.place.ensures.0, c.place-2.ensures.0, c.place-3.ensures.0),
-      omega (arith, length-take {A = ℕ}, c.place-3.ensures.1, ap length e),
-    )
+    in
+    record {
+      text = e
+          ∙ rw (c.origin_text-text.ensures, c.place.ensures.0, c.place-2.ensures.0, c.place-3.ensures.0);
+      small = omega (arith, length-take {A = ℕ}, c.place-3.ensures.1, ap length e);
+    }

@@ -17,7 +17,8 @@ module _ {s : List ℕ} {from to at count place : ℕ} (g : Going s from to at c
 
   going_on : at < to → get_or s at 0 ≡ 0x0A → Going s from to (at + 1) (count + 1) at
   going_on h e =
-      let here : newline_places (to - at) s at ≡ at ∷ more = places_next (to - at) (to - (at + 1)) s at (omega arith) ∙ rw (eq-eqb (get_or s at 0) 0x0A e) in
+      let here : newline_places (to - at) s at ≡ at ∷ more =
+      places_next (to - at) (to - (at + 1)) s at (omega arith) ∙ rw (eq-eqb (get_or s at 0) 0x0A e) in
       record {
         low = omega (arith, g.low);
         high = omega arith;

@@ -11,7 +11,8 @@ loop-last-init c = let range = c.in-Some.ensures.lookup.0 in rw range.2 (left_st
 
 pub loop-last-preserved : goal.loop-last-preserved
 loop-last-preserved c =
-    left_next _ _ _ _ _ (sym c.last_char.ensures ∙ c.in-Some-last_char.is) (sym c.is_whitespace.ensures ∙ c.if-not-is_whitespace.false) c.loop-last.invariant
+    left_next _ _ _ _ _ (sym c.last_char.ensures ∙ c.in-Some-last_char.is)
+    (sym c.is_whitespace.ensures ∙ c.if-not-is_whitespace.false) c.loop-last.invariant
 
 pub returns : goal.returns
 returns c =

@@ -29,13 +29,25 @@ pub list_tree-put-requires-2 : goal.list_tree-put-requires-2
 list_tree-put-requires-2 t c = omega (arith, (tree_within c.args.image.now _ _ c.requires), c.requires.below, c.requires.short)
 
 pub list_tree-slice_bounds-copy-end : goal.list_tree-slice_bounds-copy-end
-list_tree-slice_bounds-copy-end t c = omega (arith, c.num32-n.ensures.same, (tree_room c.args.image.now _ _ c.requires (λ z. c.if-n-eq0.false (c.num32-n.ensures.same ∙ z))))
+list_tree-slice_bounds-copy-end t c = omega (
+  arith,
+  c.num32-n.ensures.same,
+  (tree_room c.args.image.now _ _ c.requires (λ z. c.if-n-eq0.false (c.num32-n.ensures.same ∙ z))),
+)
 
 pub list_tree-overflow_add-at : goal.list_tree-overflow_add-at
-list_tree-overflow_add-at t c = omega (arith, c.num32-n.ensures.same, (tree_room c.args.image.now _ _ c.requires (λ z. c.if-n-eq0.false (c.num32-n.ensures.same ∙ z))))
+list_tree-overflow_add-at t c = omega (
+  arith,
+  c.num32-n.ensures.same,
+  (tree_room c.args.image.now _ _ c.requires (λ z. c.if-n-eq0.false (c.num32-n.ensures.same ∙ z))),
+)
 
 pub list_tree-overflow_add-at-2 : goal.list_tree-overflow_add-at-2
-list_tree-overflow_add-at-2 t c = omega (arith, c.num32-n.ensures.same, (tree_room c.args.image.now _ _ c.requires (λ z. c.if-n-eq0.false (c.num32-n.ensures.same ∙ z))))
+list_tree-overflow_add-at-2 t c = omega (
+  arith,
+  c.num32-n.ensures.same,
+  (tree_room c.args.image.now _ _ c.requires (λ z. c.if-n-eq0.false (c.num32-n.ensures.same ∙ z))),
+)
 
 pub list_tree-copy-requires : goal.list_tree-copy-requires
 list_tree-copy-requires t c =
@@ -58,7 +70,8 @@ list_tree-list_trees-requires t c =
     let no : ¬ (be32 c.args.image.now c.args.at ≡ 0) = λ z. c.if-n-eq0.false (c.num32-n.ensures.same ∙ z) in
     let h = (tree_head c.args.image.now _ _ c.requires no).0 in
     let r = tree_room c.args.image.now _ _ c.requires no in
-    let ten = opened c.args.image.now c.args.at c.args.out.now.pos c.copy.new.self.pos (omega (arith, r)) (rw c.put-2.ensures.place at c.copy.ensures.place) in (
+    let ten = opened c.args.image.now c.args.at c.args.out.now.pos c.copy.new.self.pos (omega (arith, r))
+    (rw c.put-2.ensures.place at c.copy.ensures.place) in (
       omega (arith, c.decreases, r, c.list_payload-first.ensures.first, first_behind c.args.image.now _ h),
       row_there c.args.image.now _ _ _ _ _ c.copy.new.self.bytes.now c.list_payload-first.new.out.bytes.now c.requires
           no c.num32-n.ensures.same c.list_payload-first.ensures.first (rw ten at c.list_payload-first.ensures.put),

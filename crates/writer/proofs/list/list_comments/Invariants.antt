@@ -1,11 +1,17 @@
--- The comments up to i are put, and the rest is ahead.
+-- So many comments are put, and the others are ahead.
 use mathlib.Core.Path.{◌≡◌}
-use Prim.Native.Nat.{◌+◌, ◌*◌}
+use Prim.Native.Nat.{ℕ, ◌+◌, ◌*◌}
+use Rattle.std.specs.Slice.Iter.{chunks_rest, chunks_size}
+use Rattle.image.specs.Bytes.{part}
+use Rattle.writer.specs.Put.{Same}
 use Rattle.writer.proofs.Listed.{Pairs}
 use Rattle.writer.proofs.list.list_comments.Given as goal
 
-abbrev pub invariant-loop-i : goal.invariant-loop-i
-invariant-loop-i l = record {
-  pairs : Pairs l.image l.count l.fn.out.bytes.now l.i (7 + 8 * l.i) l.out.pos l.out.bytes.now;
-  same : l.out.bytes.ghost_name ≡ l.fn.out.bytes.ghost_name;
+abbrev pub invariant-loop-pair : goal.invariant-loop-pair
+invariant-loop-pair l = record {
+  done : ℕ;
+  eight : chunks_size l.pair-iterator ≡ 8;
+  rest : chunks_rest l.pair-iterator ≡ part (7 + 8 * done) (7 + 8 * l.count) l.image;
+  pairs : Pairs l.image l.count l.fn.out.bytes.now done (7 + 8 * done) l.out.pos l.out.bytes.now;
+  same : Same l.fn.out l.out;
 }

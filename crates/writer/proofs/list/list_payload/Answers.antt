@@ -69,12 +69,14 @@ returns-then-is_text-clause-put c =
     let pos = c.args.out.now.pos in
     let k = a_text _ _ c.in-Some.ensures (sym c.is_text.ensures ∙ c.if-is_text.true) in
     let w = c.requires.whole.width k in
-    let two : length (part (c.args.at + 13) mid b) ≡ 2 = part_length b (c.args.at + 13) mid (omega arith) (omega (arith, w, c.requires.whole.inside)) ∙ omega arith in
+    let two : length (part (c.args.at + 13) mid b) ≡ 2 = part_length b (c.args.at + 13) mid (omega arith)
+    (omega (arith, w, c.requires.whole.inside)) ∙ omega arith in
     let all : length (part mid stop b) ≡ stop - mid =
     part_length b mid stop (omega (arith, w, c.num32.ensures.same)) (omega (arith, c.requires.whole.inside, c.num32.ensures.same)) in
     let three : c.copy.new.self.pos ≡ pos + 3 = omega (arith, c.put.ensures.place, c.copy.ensures.place, two) in
     let seven : c.put32.new.self.pos ≡ pos + 7 = omega (arith, c.put32.ensures.place, three) in
-    rw (c.copy-then-is_text.ensures.place ∙ ap₂ (λ (x y : ℕ). x + y) seven all) (text_payload b _ (λ i. omega (arith, c.type_inv.image i)) c.requires.whole _ _ _ _ _
+    rw (c.copy-then-is_text.ensures.place ∙ ap₂ (λ (x y : ℕ). x + y) seven all)
+    (text_payload b _ (λ i. omega (arith, c.type_inv.image i)) c.requires.whole _ _ _ _ _
     _ _ k (ap (λ (m : ℕ). c.args.at + 4 + m) c.num32.ensures.same)
     c.requires.short c.put.ensures.bytes (rw c.put.ensures.place at c.copy.ensures.bytes) (rw three at c.put32.ensures.bytes)
     (rw seven at c.copy-then-is_text.ensures.bytes))
@@ -94,7 +96,8 @@ returns-then-has_byte-clause-first c =
 
 pub returns-then-has_byte-clause-put : goal.returns-then-has_byte-clause-put
 returns-then-has_byte-clause-put c =
-    let two : c.put-then-has_byte-2.new.self.pos ≡ c.args.out.now.pos + 2 = omega (arith, c.put-then-has_byte.ensures.place, c.put-then-has_byte-2.ensures.place) in
+    let two : c.put-then-has_byte-2.new.self.pos ≡ c.args.out.now.pos + 2 =
+    omega (arith, c.put-then-has_byte.ensures.place, c.put-then-has_byte-2.ensures.place) in
     rw two (byte_payload c.args.image.now _ (λ i. omega (arith, c.type_inv.image i)) c.requires.whole _ _ _ _
     (no_text _ _ c.in-Some.ensures (sym c.is_text.ensures ∙ c.if-is_text.false))
     (byte_by _ _ c.in-Some.ensures (sym c.has_byte.ensures ∙ c.if-has_byte.true))

@@ -22,11 +22,19 @@ returns-in_err-tree c =
     ∙ sym (ap measured (contents_pairs c.args.steps.now _ _
     (read_fault pair_bytes 0 _ (comments_from c.args.steps.now MAX_COMMENTS 0) _ _ _ c.put_comments.ensures.put c.in_err-tree.was)))
 
+pub invariant_of-root : goal.invariant_of-root
+invariant_of-root c =
+    let a = read_next pair_bytes 0 _ (comments_from c.args.steps.now MAX_COMMENTS 0) _ _ _ c.put_comments.ensures.put c.in_ok-tree.was in
+    record {
+      inside = (comments_got c.args.steps.now MAX_COMMENTS 0 a.what _ (omega arith) a.reads).within;
+      bytes = λ i. omega (arith, c.type_inv.steps i);
+    }
+
 pub put_record-requires : goal.put_record-requires
 put_record-requires c =
     let a = read_next pair_bytes 0 _ (comments_from c.args.steps.now MAX_COMMENTS 0) _ _ _ c.put_comments.ensures.put c.in_ok-tree.was in
     let k = comments_got c.args.steps.now MAX_COMMENTS 0 a.what _ (omega arith) a.reads in
-    record { inside = k.within; below = omega (arith, a.place, pairs_size a.what, k.ends) }
+    omega (arith, a.place, pairs_size a.what, k.ends)
 
 pub returns-in_err-end : goal.returns-in_err-end
 returns-in_err-end c =

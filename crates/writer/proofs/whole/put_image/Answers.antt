@@ -25,7 +25,7 @@ slice_bounds-put_tree-start c =
 pub put_tree-requires : goal.put_tree-requires
 put_tree-requires c =
     let k = parts c.args.steps.now _ _ c.requires.is in
-    record { inside = k.inside; below = omega arith }
+    k.inside
 
 pub returns : goal.returns
 returns c =

@@ -19,12 +19,12 @@ use Rattle.image.specs.declared.grammar.Range.{Range}
 use Rattle.image.proofs.grammar.Due.fits.Goals as goal
 
 abbrev range_of : Due → Range
-range_of d = get_or RANGES (tag_of the_type d) (record { low = 0; high = 0 })
+range_of d = get_or RANGES (tag_of the_type d) (0, 0)
 
 a_list : (k : ℕ) → eqb k 3 ≡ (leb 3 k && leb k 3)
 a_list k = grind (arith, nat_tests)
 
-ranged : (d : Due) (k : ℕ) → kind_fits_of (due_number d) k ≡ (leb (range_of d).low k && leb k (range_of d).high)
+ranged : (d : Due) (k : ℕ) → kind_fits_of (due_number d) k ≡ (leb (range_of d).0 k && leb k (range_of d).1)
 unfolding kind_fits_of
 ranged due.Tree k = refl
 ranged due.Text k = refl
@@ -57,9 +57,9 @@ ranged due.StringParts k = a_list k
 
 pub returns-then-range-kind : goal.returns-then-range-kind
 returns-then-range-kind c =
-    sym (ranged c.args.self c.args.kind ∙ ap (λ t. t && leb c.args.kind (range_of c.args.self).high) (le-leb _ _ c.if-range-kind.true))
+    sym (ranged c.args.self c.args.kind ∙ ap (λ t. t && leb c.args.kind (range_of c.args.self).1) (le-leb _ _ c.if-range-kind.true))
 
 pub returns-else-range-kind : goal.returns-else-range-kind
 returns-else-range-kind c =
     let none = lt-leb _ _ c.if-range-kind.false in
-    none ∙ sym (ranged c.args.self c.args.kind ∙ ap (λ t. t && leb c.args.kind (range_of c.args.self).high) none)
+    none ∙ sym (ranged c.args.self c.args.kind ∙ ap (λ t. t && leb c.args.kind (range_of c.args.self).1) none)

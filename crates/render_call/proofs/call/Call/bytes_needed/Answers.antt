@@ -1,0 +1,22 @@
+-- The laws of the dry run, step by step.
+-- Assumes nothing.
+use native.Mathlib.Omega.{arith}
+use Rattle.render_call.proofs.Steps.{rows_within, dry_starts, back_within, dry_ends}
+use Rattle.render_call.proofs.call.Call.bytes_needed.Goals as goal
+
+pub put_aside-requires : goal.put_aside-requires
+put_aside-requires c = rows_within _ _ _ _ _ _ c.requires
+
+pub run_rows-end-requires : goal.run_rows-end-requires
+run_rows-end-requires c =
+    dry_starts _ _ _ _ _ _ c.requires _ _ c.put_aside.ensures _ c.start_text.ensures
+
+pub put_back-requires : goal.put_back-requires
+put_back-requires c =
+    let w = back_within _ _ _ _ _ _ c.requires _ _ c.put_aside.ensures in
+    (omega arith, omega arith)
+
+pub returns : goal.returns
+returns c =
+    dry_ends _ _ _ _ _ _ c.requires _ _ c.put_aside.ensures _ _ c.start_text.ensures
+    (λ k. omega (arith, c.slice_known-2-1.given k)) _ _ _ _ c.run_rows-end.ensures c.put_back.ensures

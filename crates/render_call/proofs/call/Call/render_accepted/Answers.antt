@@ -1,0 +1,8 @@
+-- The true run, or the dry run first.
+-- Assumes nothing.
+use Rattle.render_call.proofs.Steps.{fits_most}
+use Rattle.render_call.proofs.call.Call.render_accepted.Goals as goal
+
+pub write_rows-requires : goal.write_rows-requires
+write_rows-requires c =
+    (fits_most _ _ _ _ _ _ c.requires.passing _ _ c.requires.bytes c.if-needs-out.true, c.requires.marks)

@@ -1,0 +1,12 @@
+-- 9 by the marks that the rows need.
+-- Assumes nothing.
+use mathlib.Core.Path.{refl}
+use Rattle.render_call.proofs.Early.{needs_within, marks_short}
+use Rattle.render_call.proofs.call.Call.render_checked.Goals as goal
+
+pub rows_need-needs-requires : goal.rows_need-needs-requires
+rows_need-needs-requires c = needs_within _ _ _ _ _ _ c.requires _ refl
+
+pub returns-then-marks-needs : goal.returns-then-marks-needs
+returns-then-marks-needs c =
+    marks_short _ _ _ _ _ _ c.requires _ c.rows_need-needs.ensures.0 _ c.if-marks-needs.true _ c.at.ensures

@@ -1,8 +1,0 @@
--- The true run, or the dry run first.
--- Assumes nothing.
-use Rattle.render_call.proofs.Steps.{fits_most}
-use Rattle.render_call.proofs.run.render_accepted.Goals as goal
-
-pub write_rows-requires : goal.write_rows-requires
-write_rows-requires c =
-    (fits_most _ _ _ _ _ _ c.requires.0 _ _ c.requires.1.1 c.if-n-out.true, c.requires.1.0)
