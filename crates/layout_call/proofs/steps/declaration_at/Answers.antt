@@ -17,5 +17,6 @@ records-requires c = rw (c.second-from.ensures, c.past-to.ensures) (all_records_
 pub returns : goal.returns
 returns c =
     let given = rw (c.second-from.ensures, c.past-to.ensures) at c.records.ensures in
-    let found = sym (option_map_id c.nth.result) ∙ nth_from_yields_List _ c.nth.new.self c.args.k c.nth.ensures.ran (YieldsList-from_first (λ x. x) offsets _ given) in
+    let yields = YieldsList-from_first (λ x. x) offsets _ given in
+    let found = sym (option_map_id c.nth.result) ∙ nth_from_yields_List _ c.nth.new.self c.args.k c.nth.ensures.ran yields in
     (rw (found, c.past-to.ensures) at c.unwrap_or.ensures) ∙ record_at c.args.file.accepts c.args.k c.requires
