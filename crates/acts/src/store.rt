@@ -12,7 +12,7 @@ use rows::places::{PLACES, WIDTH};
 use rows::store::put;
 
 // What a text is a part of, where it starts there, and how many bytes it has.
-#[derive(Clone, Copy, Debug, PartialEq, Eq)]
+#[derive(Clone, Copy)]
 pub struct Text {
     pub origin: Origin,
     pub start: u32,
@@ -20,7 +20,7 @@ pub struct Text {
 }
 
 // A row as it is written at first: the place of its second part is 0, and set later where it has one.
-#[derive(Clone, Copy, Debug, PartialEq, Eq)]
+#[derive(Clone, Copy)]
 pub struct Row {
     pub kind: Kind,
     pub number: u32,

@@ -12,7 +12,7 @@ pub(crate) const CELLS: usize = 3;
 
 // The refusal's number or 0, its place or 0, the bytes of the text.
 // kept: three numbers and no Result: C reads them so from the table that it lends, number 0 where there is a text.
-#[derive(Clone, Copy, Debug, PartialEq, Eq)]
+#[derive(Clone, Copy)]
 pub(crate) struct Row {
     number: u8,
     place: usize,

@@ -6,7 +6,7 @@
 use comments::parsed::Parsed;
 
 // A declaration.
-#[derive(Clone, Copy, Debug, PartialEq, Eq)]
+#[derive(Clone, Copy)]
 pub(crate) enum Declaration {
     FilterMap,
     Const,
@@ -39,7 +39,7 @@ impl Declaration {
 }
 
 // A statement.
-#[derive(Clone, Copy, Debug, PartialEq, Eq)]
+#[derive(Clone, Copy)]
 pub(crate) enum Stmt {
     Let,
     Import,
@@ -64,7 +64,7 @@ impl Stmt {
 }
 
 // A type.
-#[derive(Clone, Copy, Debug, PartialEq, Eq)]
+#[derive(Clone, Copy)]
 pub(crate) enum TypeExpr {
     Option,
     Path,
@@ -93,7 +93,7 @@ impl TypeExpr {
 }
 
 // An expression.
-#[derive(Clone, Copy, Debug, PartialEq, Eq)]
+#[derive(Clone, Copy, PartialEq, Eq)]
 pub(crate) enum Expr {
     Return,
     Literal,
@@ -154,7 +154,7 @@ impl Expr {
 }
 
 // A pattern.
-#[derive(Clone, Copy, Debug, PartialEq, Eq)]
+#[derive(Clone, Copy, PartialEq, Eq)]
 pub(crate) enum Pattern {
     Underscore,
     EnumVariant,
@@ -177,7 +177,7 @@ impl Pattern {
 }
 
 // A part of an f-string.
-#[derive(Clone, Copy, Debug, PartialEq, Eq)]
+#[derive(Clone, Copy, PartialEq, Eq)]
 pub(crate) enum FStringPart {
     String,
     Expr,

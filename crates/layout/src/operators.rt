@@ -4,7 +4,7 @@ use acts::words::Word;
 use comments::parsed::Parsed;
 
 // `BinOp`, its variants in order.
-#[derive(Clone, Copy, Debug, PartialEq, Eq)]
+#[derive(Clone, Copy)]
 pub(crate) enum BinOp {
     And,
     Or,

@@ -32,7 +32,7 @@ fn row_most(store: &[u32], row: usize, margin: usize) -> Bytes
 }
 
 // What rows need: marks, and bytes at most.
-#[derive(Clone, Copy, Debug, PartialEq, Eq)]
+#[derive(Clone, Copy)]
 pub struct Needs {
     pub marks: usize,
     pub bytes: Bytes,

@@ -15,7 +15,7 @@ use rows::texts::Rows;
 use rows::units::{Columns, ascii_columns};
 
 // A row without parts: its kind, and whether the part that it is in wraps.
-#[derive(Clone, Copy, Debug, PartialEq, Eq)]
+#[derive(Clone, Copy)]
 pub struct LeafRow {
     pub row: usize,
     pub kind: Kind,

@@ -17,7 +17,7 @@ use rows::wrap::is_wrapped;
 
 // What stopped a sum of widths.
 // kept: each end is an answer and none is a failure, so that a `Result` would mislead.
-#[derive(Clone, Copy, Debug, PartialEq, Eq)]
+#[derive(Clone, Copy)]
 enum Measured {
     // the range's end: the width
     Width(Columns),

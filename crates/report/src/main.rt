@@ -16,7 +16,7 @@ use std::io::Read;
 const FILES: usize = usize::MAX;
 
 // What is held after the last file, and what came behind it.
-#[derive(Clone, Copy, Debug, PartialEq, Eq)]
+#[derive(Clone, Copy)]
 struct Ended {
     progress: Progress,
     came: Result<Option<usize>, Cut>,

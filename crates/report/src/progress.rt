@@ -7,7 +7,7 @@ use report_lines::{Line, ends_inside_line, file_line, refused_file_line};
 use tallies::Tallies;
 
 // The files read so far, how many of them were refused, and the tallies over the others.
-#[derive(Clone, Copy, Debug, Default, PartialEq, Eq)]
+#[derive(Clone, Copy, Default)]
 pub(crate) struct Progress {
     pub(crate) files: usize,
     pub(crate) refused: usize,

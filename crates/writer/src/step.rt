@@ -12,7 +12,7 @@ use image::grammar::Due;
 use image::kinds::Kind;
 
 // What the first byte of a step says that it is.
-#[derive(Clone, Copy, Debug, PartialEq, Eq)]
+#[derive(Clone, Copy)]
 pub(crate) enum Code {
     Comment = 1,
     Open = 2,
