@@ -136,16 +136,6 @@ laid_pop {s} {c} {c'} e = record { stored = refl; moved = e ∙ stays c c.pos (c
 pub lays_skip : {s : List ℕ} {c : Cursor} → Lays skip s c s c
 lays_skip = lays laid_skip
 
--- a step that is taken, and one that is not
-pub room_when : {b : Bool} {a : Act} {c : Cursor} → b ≡ true → Room (when b a) c → Room a c
-room_when {a = a} {c = c} e room = subst (λ (x : Bool). Room (when x a) c) e room
-
-pub lays_when : {b : Bool} {a : Act} {s s' : List ℕ} {c c' : Cursor} → b ≡ true → Lays a s c s' c' → Lays (when b a) s c s' c'
-lays_when e l = rw e l
-
-pub lays_unless : (a : Act) {b : Bool} {s : List ℕ} {c : Cursor} → b ≡ false → Lays (when b a) s c s c
-lays_unless a e = rw e lays_skip
-
 -- one of two steps
 pub room_if : (b : Act) {t : Bool} {a : Act} {c : Cursor} → t ≡ true → Room (cond t a b) c → Room a c
 room_if b {a = a} {c = c} e room = subst (λ (x : Bool). Room (cond x a b) c) e room

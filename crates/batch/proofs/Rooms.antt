@@ -135,14 +135,3 @@ module _ (c : FileChoice) (x : Save) where
           let q : ◌≡◌ {A = Refusal} (record { number = 10; place = p }) (record { number = 10; place = needed }) = cc in
           ap (λ (y : Refusal). y.place) q ∙ sym (ap length (all_text e))
       go None e false f = let g = bare_by e false f in let z : ◌≡◌ {A = ℕ} 0 1 = cc in absurd (omega arith)
-
-  pub bare_other : (n p : ℕ) → (n ≡ 10 → ⊥) → refused (record { number = n; place = p }) ≡ bare → 0 ≡ length (text_of c x)
-  bare_other n p not_ten h = go early refl (ltb 0 needed) refl
-    where
-      go : (o : Option Refusal) → early ≡ o → (t : Bool) → ltb 0 needed ≡ t → 0 ≡ length (text_of c x)
-      go (Some r) e t f = sym (ap length (no_text r e))
-      go None e true f =
-          let g = bare_by e true f in
-          let q : ◌≡◌ {A = Refusal} (record { number = n; place = p }) (record { number = 10; place = needed }) = cc in
-          absurd (not_ten (ap (λ (y : Refusal). y.number) q))
-      go None e false f = let g = bare_by e false f in let z : ◌≡◌ {A = ℕ} 0 1 = cc in absurd (omega arith)

@@ -24,7 +24,7 @@ use Rattle.refusals.specs.declared.Reason.TheVariants as reason
 use Rattle.batch.specs.Batch.{MAX_SAVES, Save, all_saves, saves_by, row_of, single, table_due, texts_due, batch_refusal, batch_result}
 use Rattle.batch.specs.Whole.{text_of, Framed, Batches, Saved, Room, Written}
 use Rattle.batch.proofs.Buffer.{listed}
-use Rattle.batch.proofs.Rooms.{answer_roomy, output_roomy, bare_text, bare_ten, bare_other}
+use Rattle.batch.proofs.Rooms.{answer_roomy, output_roomy, bare_text, bare_ten}
 use Rattle.batch.proofs.Bounds.{early_fine}
 use Rattle.batch.proofs.Texts.{table_size}
 
@@ -42,9 +42,6 @@ module _ (x : Save) (c : FileChoice) (out : List ℕ) (r : Result Text Refused) 
     size_ten w q t =
         bare_ten c x (λ o g. (early_fine c x o g).not_ten) w.place
         (ap (λ (y : Reason). formatted_answer (Err (record { reason = y; place = w.place }))) (sym t) ∙ ap formatted_answer (sym q) ∙ answered)
-
-    pub size_other : (w : Refused) → r ≡ Err w → (number_of w.reason ≡ 10 → ⊥) → 0 ≡ length (text_of c x)
-    size_other w q t = bare_other c x (number_of w.reason) w.place t (ap formatted_answer (sym q) ∙ answered)
 
   -- with room for its text
   module _ (fits : length (text_of c x) ≤ length out) where

@@ -134,9 +134,6 @@ module _ (c : FileChoice) where
           }
 
       module _ (table out : List ℕ) (at cell text : ℕ) (p : Putting table₀ out₀ table out at cell text) where
-        pub putting_start : text ≤ length out
-        putting_start = omega (arith, p.texts_fit)
-
         pub putting_all : length f < frame_end f at → Written c f table₀ out₀ table out
         putting_all h =
             let e = last f (past_last f h p.files) p.files in
@@ -221,9 +218,6 @@ module _ (c : FileChoice) where
         module _ (x : Frame) (w : IsFrame f at x) where
           pub frame_row : cell + 3 ≤ length table
           frame_row = putting_row (starts f at x w)
-
-          pub frame_bytes : text + length (text_of c (saved x)) ≤ length out
-          frame_bytes = subst (λ (y : Save). text + length (text_of c y) ≤ length out) (sym w.file) (putting_bytes (starts f at x w))
 
           pub frame_text : length (text_of c (saved x)) ≤ length (take (length out - text) (drop text out))
           frame_text =

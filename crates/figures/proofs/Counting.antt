@@ -7,7 +7,7 @@ use mathlib.Core.List.{List, [], ◌∷◌, ◌++◌}
 use Prim.Native.Nat.{ℕ, ◌+◌, ◌*◌, ◌-◌, ◌/◌, ◌≤◌}
 use native.Mathlib.Nat.{add-zero}
 use native.Mathlib.Omega.{arith}
-use lib.ListN.{length, take, drop, replicate, length-append, length-replicate}
+use lib.ListN.{length, take, drop, replicate, length-replicate}
 use lib.Seq.{take_at}
 use Rattle.image.specs.Read.{read_all, outcome, Accepts}
 use Rattle.image.specs.declared.Document.{Document}
@@ -157,11 +157,6 @@ module _ (s b : List ℕ) where
 
       -- ---- counted
       module _ (d : Document) (a : Accepts s b d) where
-        pub text_inside : u.text.bytes.0 ≤ length out2
-        text_inside =
-            let l = ap length output_due ∙ length-append (drawn_due s b reference_choice).text (drop text_due_lem out) in
-            omega (arith, bytes_due)
-
         pub left_fits : u.text.left ≤ d.comments
         left_fits = omega (arith, left_due_of, comments_count a)
 

@@ -43,9 +43,7 @@ use Rattle.render_call.specs.Whole.{Checked, Draws}
 use Rattle.render_call.specs.declared.RenderState.{RenderState}
 use Rattle.render_call.specs.declared.RenderArgs.{RenderArgs}
 use Rattle.render_call.specs.declared.Drawn.{Drawn}
-use Rattle.file.specs.Whole.{formatted_answer, formatted_of, RunsFile, Formats}
-use Rattle.file.specs.declared.Text.{Text}
-use Rattle.file.specs.declared.Run.{Run}
+use Rattle.file.specs.Whole.{RunsFile, Formats}
 
 -- what refuses the choice
 abbrev pub mode_refusal : Refused
@@ -114,19 +112,6 @@ module _ (s b : List ℕ) (c : FileChoice) where
 
     abbrev laid : Option Refusal
     laid = laid_refusal s b c (tests.rows_in store)
-
-    -- rows and marks as many as a whole file has: its run
-    pub runs_whole : tests.rows_in store ≡ file_rows → length marks ≡ file_marks → (r : Result Run Refused) (store2 marks2 out2 : List ℕ)
-        → RunsFile s b c store marks out r store2 marks2 out2
-        → (a : Result Text Refused)
-        → a ≡ formatted_of r
-        → Formats s b c out a out2
-    runs_whole rowed marked r store2 marks2 out2 f a e =
-        let same : table ≡ file_refusal s b c (length out) = ap₂ (λ (x y : ℕ). refusal_in s b c x y (length out)) rowed marked in
-        record {
-          answer = ap formatted_answer e ∙ f.answer ∙ ap (λ (x : Option Refusal). answer_by x (file_result s b c)) same;
-          output_left_of = f.output_left_of ∙ ap (λ (x : Option Refusal). unless x out (write_front (drawn_due s b c).text out)) same;
-        }
 
     -- refused by the layout call, or before it
     laid_refused : (why : Refused) (store2 : List ℕ) → laid ≡ Some (refusal why) → store2 ≡ store_left s b c store

@@ -4,14 +4,12 @@ use mathlib.Core.Path.{◌≡◌, refl, sym, ap, ◌∙◌}
 use mathlib.Core.List.{List}
 use mathlib.Core.Logic.{◌⊎◌, inl, inr}
 use mathlib.Core.Bool.{Bool, true, false, cond, true≢false, false≢true}
-use Prim.Native.Nat.{ℕ, zero, suc, ◌+◌, ◌≤◌, ◌<◌}
-use native.Mathlib.Omega.{arith}
-use native.Mathlib.Nat.{le_refl, le_of_suc-le-suc, not-suc-le-zero}
+use Prim.Native.Nat.{ℕ, zero, suc, ◌≤◌, ◌<◌}
 use lib.Dec.{ltb, eqb}
 use borrow.Author.Tests.{ne_eqb, ltb-true, ltb-false}
-use Rattle.image.specs.Grammar.{bare, is_many, place, after, complete}
-use Rattle.image.specs.Read.{Read, got, bad, bind, Head, head_at, stop_at, Tree, Trees, absent, node}
-use Rattle.image.specs.Read.{nil, ◌▸◌, opens, skips, child_by, child_at, record_at, children_at}
+use Rattle.image.specs.Grammar.{is_many, place, after, complete}
+use Rattle.image.specs.Read.{Read, got, bad, bind, Head, head_at, stop_at, Tree, Trees, node}
+use Rattle.image.specs.Read.{nil, ◌▸◌, opens, record_at, children_at}
 use Rattle.image.proofs.Shapes.{Opened, opened, is_got}
 use Rattle.image.proofs.Reading.{EndsAt, within, record_bad, record_opens, children_end}
 
@@ -114,72 +112,3 @@ none_deep s b v p at end t q h = go (opens s b v 0 p at end) refl
     go : (r : Read Head) → opens s b v 0 p at end ≡ r → ⊥
     go (bad m k) o = false≢true (ap is_got (sym (record_bad s b v 0 p at end m k o) ∙ h))
     go (got g k) o = (opened s b v 0 p at end g k o).0.more refl
-
--- ---- the same reading with more levels and a later end
-opened_later : (s b : List ℕ) (v d e p at end end' : ℕ) → d ≤ e → end ≤ end' → Opened s b v d p at end → Opened s b v e p at end'
-opened_later s b v d e p at end end' le more o =
-    let w = o.right in
-    record {
-      more = λ z. o.more (omega arith);
-      right = record { long = w.long; within = omega (arith, w.within); kind = w.kind; payload = w.payload };
-      span = o.span;
-    }
-
--- what `one` reads, `two` reads
-abbrev Reads : (ℕ → ℕ → ℕ → Read Tree) → (ℕ → ℕ → ℕ → Read Tree) → Type 0
-Reads one two = (p at stop : ℕ) (t : Tree) (q : ℕ) → one p at stop ≡ got t q → two p at stop ≡ got t q
-
-children_more : (one two : ℕ → ℕ → ℕ → Read Tree) → Reads one two
-    → (n row at stop : ℕ) (ts : Trees) (e : ℕ) → children_at one n row at stop ≡ got ts e → children_at two n row at stop ≡ got ts e
-unfolding children_at
-children_more one two f zero row at stop ts e h = absurd (false≢true (ap is_got h))
-children_more one two f (suc n) row at stop ts e h = go (ltb at stop) (eqb row 0) (children_more one two f n (after row)) h
-  where
-    tails : (t : Tree) (x y : Read Trees) → ((us : Trees) (k : ℕ) → x ≡ got us k → y ≡ got us k)
-        → bind x (λ us end. got (t ▸ us) end) ≡ got ts e → bind y (λ us end. got (t ▸ us) end) ≡ got ts e
-    tails t (got us k) y g h = rw (g us k refl) h
-    tails t (bad m k) y g h = absurd (false≢true (ap is_got h))
-
-    heads : (x : Read Tree) → one (place row) at stop ≡ x
-        → ((a z : ℕ) (us : Trees) (k : ℕ) → children_at one n (after row) a z ≡ got us k → children_at two n (after row) a z ≡ got us k)
-        → bind x (λ t next. bind (children_at one n (after row) next stop) (λ us end. got (t ▸ us) end)) ≡ got ts e
-        → bind (two (place row) at stop) (λ t next. bind (children_at two n (after row) next stop) (λ us end. got (t ▸ us) end)) ≡ got ts e
-    heads (got t k) o g h =
-        rw (f (place row) at stop t k o) (tails t (children_at one n (after row) k stop) (children_at two n (after row) k stop) (g k stop) h)
-    heads (bad m k) o g h = absurd (false≢true (ap is_got h))
-
-    go : (t₁ t₂ : Bool)
-        → ((a z : ℕ) (us : Trees) (k : ℕ) → children_at one n (after row) a z ≡ got us k → children_at two n (after row) a z ≡ got us k)
-        → cond t₁
-        (cond t₂ (bad 4 at) (bind (one (place row) at stop) (λ t next. bind (children_at one n (after row) next stop) (λ us end. got (t ▸ us) end))))
-        (cond (complete row) (got nil stop) (bad 4 at))
-        ≡ got ts e
-        → cond t₁
-        (cond t₂ (bad 4 at) (bind (two (place row) at stop) (λ t next. bind (children_at two n (after row) next stop) (λ us end. got (t ▸ us) end))))
-        (cond (complete row) (got nil stop) (bad 4 at))
-        ≡ got ts e
-    go true true g h = h
-    go true false g h = heads (one (place row) at stop) refl g h
-    go false t₂ g h = h
-
-child_more : (b : List ℕ) (one two : ℕ → ℕ → ℕ → Read Tree) → Reads one two → Reads (child_by b one) (child_by b two)
-child_more b one two f p at stop t q h = go (skips b p at stop) h
-  where
-    go : (x : Bool) → cond x (got absent (at + 4)) (one (bare p) at stop) ≡ got t q → cond x (got absent (at + 4)) (two (bare p) at stop) ≡ got t q
-    go true h = h
-    go false h = f (bare p) at stop t q h
-
--- what was read with fewer levels and an earlier end is read with more levels and a later end
-pub record_more : (s b : List ℕ) (v d e p at end end' : ℕ) (t : Tree) (q : ℕ) → d ≤ e → end ≤ end' → record_at s b v d p at end ≡ got t q
-    → record_at s b v e p at end' ≡ got t q
-record_more s b v zero e p at end end' t q le more h = absurd (none_deep s b v p at end t q h)
-record_more s b v (suc d) zero p at end end' t q le more h = absurd (not-suc-le-zero le)
-record_more s b v (suc d) (suc e) p at end end' t q le more h =
-    let i = inside s b v d p at end t q h in
-    let below : Reads (record_at s b v d) (record_at s b v e) =
-    λ p at stop t q r. record_more s b v d e p at stop stop t q (le_of_suc-le-suc le) (le_refl stop) r
-    in
-    let kept : within s b v e p at ≡ got i.trees (stop_at b at) =
-    children_more (child_at s b v d) (child_at s b v e) (child_more b (record_at s b v d) (record_at s b v e) below) _ _ _ _ _ _ i.kept
-    in
-    record_opens s b v e p at end' (opened_later s b v (suc d) (suc e) p at end end' le more i.held) ∙ rw kept (cc (i.is, i.stop))

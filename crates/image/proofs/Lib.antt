@@ -7,7 +7,6 @@ pub mod Reading
 pub mod CommentList
 pub mod Whole
 pub mod Inside
-pub mod Rows
 pub mod Accepted
 pub mod Answers
 pub mod Exact

@@ -34,10 +34,6 @@ pub and_false : (x : Bool) → x && false ≡ false
 and_false true = refl
 and_false false = refl
 
-pub and_true : (x : Bool) → x && true ≡ x
-and_true true = refl
-and_true false = refl
-
 -- ---- `||`
 pub or_right : (x y : Bool) → x || y ≡ true → x ≡ false → y ≡ true
 or_right x y e f = simp f at e

@@ -32,8 +32,3 @@ set_sets (w ∷ vs) s i zero v h =
 set_sets (w ∷ vs) s i (suc k) v h =
     ap (λ (j : ℕ). set (sets (set s i w) (suc i) vs) j v) (add-suc i k ∙ sym (suc-add i k))
     ∙ set_sets vs (set s i w) (suc i) k v (omega arith)
-
--- a store without places stays so
-pub sets_nowhere : (vs : List ℕ) (i : ℕ) → sets [] i vs ≡ []
-sets_nowhere [] i = refl
-sets_nowhere (v ∷ vs) i = sets_nowhere vs (suc i)

@@ -10,10 +10,10 @@ use lib.Dec.{eqb}
 use borrow.Author.Tests.{eqb-true, eqb-false}
 use Rattle.image.specs.Bytes.{be32}
 use Rattle.ast.specs.Syntax.{Span, Ident, Path, TypeExpr, type, TypeArgs, no_args, args, Import, import, ImportGroup, no_group, group, Idents, Expr, expr}
-use Rattle.ast.specs.Syntax.{Block, braces, Stmt, stmt, Pattern, underscore, enum_variant, MaybeExpr, no_expr, some_expr, MaybeBlock, no_block}
+use Rattle.ast.specs.Syntax.{Block, braces, Stmt, stmt, MaybeExpr, no_expr, some_expr, MaybeBlock, no_block}
 use Rattle.ast.specs.Syntax.{some_block}
 use Rattle.tree.specs.At.{Head, Absent, IdentAt, PathAt, Maybe, TypeAt, TypeArgsAt, ImportAt, ImportGroupAt}
-use Rattle.tree.specs.At.{ListAt, ExprAt, BlockAt, StmtAt, PatternAt, MaybeExprAt, MaybeBlockAt}
+use Rattle.tree.specs.At.{ListAt, ExprAt, BlockAt, StmtAt, MaybeExprAt, MaybeBlockAt}
 use Rattle.layout.specs.Layout.{import_span}
 use Rattle.comments.specs.Record.{InImage, Whole}
 
@@ -60,11 +60,6 @@ module _ (s b : List ℕ) (at : ℕ) where
   pub stmt_whole : (x : Stmt) → StmtAt s b x at → Whole b at
   unfolding StmtAt
   stmt_whole (stmt p f) a = head_whole a.0
-
-  pub pattern_whole : (p : Pattern) → PatternAt s b p at → Whole b at
-  unfolding PatternAt
-  pattern_whole underscore a = head_whole a.0.head
-  pattern_whole (enum_variant i is) a = head_whole a.0.head
 
   -- optional parts
   pub maybe_expr_lem : (m : MaybeExpr) → MaybeExprAt s b m at → InImage b at

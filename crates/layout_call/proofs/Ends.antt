@@ -10,7 +10,7 @@ use lib.ListN.{length, take, drop}
 use lib.Dec.{ltb, eqb}
 use borrow.Author.Tests.{le-ltb, ltb-false, not-true, not-false}
 use Rattle.rows.specs.Places.{PLACES}
-use Rattle.image.specs.Read.{read_all, read_refusal, outcome, Accepts}
+use Rattle.image.specs.Read.{read_all, read_refusal, Accepts}
 use Rattle.image.specs.declared.Document.{Document}
 use Rattle.image.proofs.Answers.{read_refusal_lem}
 use Rattle.rows.specs.Rows.{sizes, rows}
@@ -41,7 +41,6 @@ use Rattle.layout_call.specs.Steps.{Goes, StateFits, Roomy, from_of, missing, ca
 use Rattle.layout_call.specs.declared.LayoutState.{LayoutState}
 use Rattle.layout_call.specs.declared.LayoutArgs.{LayoutArgs}
 use Rattle.layout_call.specs.declared.Laid as declared
-use Rattle.refusals.specs.Reasons.{refusal}
 use Rattle.refusals.specs.declared.Refused.{Refused}
 use Rattle.refusals.specs.declared.Reason.TheVariants as reason
 use Rattle.layout_call.proofs.Standing.{comments_count}
@@ -81,11 +80,6 @@ module _ (s b : List ℕ) (state : LayoutState) (q : LayoutArgs) (store : List �
         answer = f ∙ ap (λ (t : Option Refusal). answer_by {A = CallResult (rules_of s b)} t (laid_out gives.state gives.left)) (sym e);
         store_left_of = ap (λ (t : Option Refusal). unless t store (write_at (PLACES * state.row) gives.rows store)) (sym e);
       }
-
-  -- 1 to 7
-  pub ends_unread : (r : Refused) → outcome (read_all s b) ≡ refused (refusal r) → LayoutCalled s b state q store (Err r) store
-  ends_unread r e =
-      refused_by _ _ (refuses_left _ before behind (before_by _ unfit (sym (read_refusal_lem (read_all s b)) ∙ ap refusal_of e) refl)) refl
 
   module _ {d : Document} (a : Accepts s b d) where
     -- what the test of the state answers, by how much there is of all

@@ -3,7 +3,7 @@
 -- Assumes nothing.
 use Prim.Native.Nat.{ℕ, ◌+◌, ◌*◌, ◌≤◌}
 use mathlib.Core.Path.{◌≡◌, refl, ap}
-use mathlib.Core.Bool.{Bool, true, false}
+use mathlib.Core.Bool.{Bool, true}
 use mathlib.Core.List.{List, [], ◌∷◌, ◌++◌}
 use Rattle.std.specs.Prelude.{None as nothing}
 use native.Mathlib.Omega.{arith}
@@ -17,7 +17,6 @@ use Rattle.tree.proofs.Walk.{declarations_order}
 use Rattle.tree.proofs.Whole.{root_at}
 use Rattle.rows.specs.Limits.{MAX_ROWS, MAX_NUMBER}
 use Rattle.rows.specs.Places.{PLACES}
-use Rattle.rows.specs.Node.{Nodes}
 use Rattle.rows.specs.Rows.{sizes, rows}
 use Rattle.rows.proofs.Flatten.{Holds}
 use Rattle.renderer_rules.specs.Check.{wrong_place}
@@ -26,7 +25,6 @@ use Rattle.acts.specs.Laid.{st, Room}
 use Rattle.acts.specs.declared.Cursor.{Cursor}
 use Rattle.comments.specs.Listed.{given, Listed}
 use Rattle.comments.proofs.Fronts.{count_of, good}
-use Rattle.layout.specs.Layout.{fmt_parsed}
 use Rattle.layout_facts.specs.Placing.{Places}
 use Rattle.layout_facts.specs.Sound.{Commented, Sounds}
 use Rattle.layout_facts.specs.Height.{declarations_height, tree_height}
@@ -150,24 +148,11 @@ module _ {g : Given} {t : SyntaxTree} {at : ℕ} (a : Stands g t at) where
   pub closed_within : (keeps : Bool) → Within g (whole_rule g t keeps fresh)
   closed_within keeps = within (whole_rule g t keeps) (omega arith) (whole_sound keeps) (places_whole g t keeps)
 
-  pub whole_within : Within g (fmt_parsed g t fresh)
-  unfolding fmt_parsed
-  whole_within = closed_within false
-
   pub up_to_within : (xs ys : List Declaration) → xs ++ ys ≡ t.declarations → Within g (up_to g t xs fresh)
   up_to_within xs ys e =
       within (up_to g t xs) (omega arith) (up_to_sound xs ys e) (places_then (places_shebang g t.shebang) (places_declarations g xs true))
 
   -- ---- the rows of a layout call pass the row check, from any state and wherever they stand
-  pub call_passes : (xs ys zs : List Declaration) (begins first closes keeps : Bool) → xs ++ (ys ++ zs) ≡ t.declarations
-      → (s : St) (store : List ℕ) (r : ℕ)
-      → let ns : Nodes = (call_rule g t begins ys first closes keeps s).nodes in
-      Holds store r (rows ns r) → r + sizes ns ≤ MAX_ROWS → (r + sizes ns) * PLACES ≤ length store
-      → wrong_place g.source g.image store r (r + sizes ns) ≡ nothing
-  call_passes xs ys zs begins first closes keeps e s store r h few fits =
-      let p = (call_sound xs ys zs begins first closes keeps e).from s in
-      not_refused g (call_rule g t begins ys first closes keeps s).nodes store r h (omega (arith, p.deep)) p.texts few fits
-
   -- the rows due from the fresh state, at the start of the store
   pub due_passes : {o : Out} → Within g o → (store : List ℕ) → Holds store 0 (rows o.nodes 0) → sizes o.nodes * PLACES ≤ length store
       → wrong_place g.source g.image store 0 (0 + sizes o.nodes) ≡ nothing

@@ -14,7 +14,7 @@ use Rattle.text.specs.Newlines.{count_newlines}
 use Rattle.text.specs.Space.{something}
 use Rattle.ast.specs.Syntax.{Span}
 use Rattle.rows.specs.Node.{Text, Node, Nodes, group, indent, indent_next, comment, none, ◌then◌, join}
-use Rattle.acts.specs.Act.{Given, St, Out, Act, Asking, next, ◌⨟◌, ◌⨟?◌, ◌⨟!◌, skip, when, push, move_to, pop, step_alone, grouped}
+use Rattle.acts.specs.Act.{Given, St, Out, Act, Asking, next, ◌⨟◌, ◌⨟?◌, ◌⨟!◌, skip, push, move_to, pop, step_alone, grouped}
 use Rattle.acts.specs.Act.{indented, indented_next, called}
 use Rattle.comments.specs.Comments.{nth, break_line, front, push_comment, newlines, ignore_newlines, pop_comment, waits}
 use Rattle.comments.specs.Comments.{pop_comments, after_comments, pop_whitespace, pop_trailing_comment}
@@ -101,14 +101,6 @@ places_skip = places_quiet quiet_skip
 
 pub places_push : {g : Given} {n : Node} → comments_of_node n ≡ [] → Places g (push n)
 places_push e = places_quiet (quiet_push e)
-
-pub places_when : {g : Given} (t : Bool) {a : Act} → Places g a → Places g (when t a)
-places_when true p = p
-places_when false p = places_skip
-
-pub places_cond : {g : Given} (t : Bool) {a b : Act} → Places g a → Places g b → Places g (cond t a b)
-places_cond true p q = p
-places_cond false p q = q
 
 -- nodes and what encloses them have the same comments
 placed_in : (g : Given) (k : ℕ) (o : Out) (ns : Nodes) (t : ℕ) → comments_in_nodes ns ≡ comments_in_nodes o.nodes → Placed g k o

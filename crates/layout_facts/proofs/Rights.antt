@@ -1,11 +1,9 @@
 -- The rows of nodes whose texts lie inside their origins are right, apart from how they nest.
 -- Assumes nothing.
-use Prim.Native.Nat.{ℕ, zero, suc, ◌+◌, ◌*◌, ◌<◌}
+use Prim.Native.Nat.{ℕ, ◌+◌}
 use mathlib.Core.Path.{◌≡◌, refl}
 use mathlib.Core.List.{List, ◌++◌, append-nil, append_assoc}
-use native.Mathlib.Omega.{arith}
-use lib.ListN.{length, take, drop, length-append}
-use lib.Seq.{take_at, drop-append-add}
+use lib.ListN.{length}
 use Rattle.rows.specs.Node as node
 use Rattle.rows.specs.Node.{Node, Nodes}
 use Rattle.rows.specs.Rows.{size, sizes, rows_of, rows}
@@ -60,11 +58,3 @@ right_long (empty_line after) = refl
 right_long (line_or_space after) = refl
 right_long (if_wrap n second after) = refl
 right_long (call n k second after) = refl
-
--- row j of right rows is right
-pub right_at : {g : Given} {l : List ℕ} (j : ℕ) → RightRows g l → 9 * j < length l → RightRow g (take 9 (drop (9 * j) l))
-right_at j none h = absurd (omega arith)
-right_at zero (more {x} {xs} p ps) h = rw (take_at x xs 9 (right_long p)) p
-right_at (suc j) (more {x} {xs} p ps) h =
-    let e : 9 * suc j ≡ length x + 9 * j = omega (arith, right_long p) in
-    rw (e, drop-append-add x xs (9 * j)) (right_at j ps (omega (arith, length-append x xs, right_long p)))

@@ -132,9 +132,6 @@ pub record Putting (u : ℕ) (s0 m0 : List ℕ) (from stop : ℕ) (s m : List �
   pub marks : length m ≡ length m0
   pub whole : put_aside (stop - row) u (held s m) row ≡ put_aside (stop - from) u (held s0 m0) from
 
-pub putting_start : (u : ℕ) (s m : List ℕ) (from stop : ℕ) → Putting u s m from stop s m from
-putting_start u s m from stop = record { rows = refl; marks = refl; whole = refl }
-
 pub putting_more : (u : ℕ) (s0 m0 : List ℕ) (from stop : ℕ) (s m : List ℕ) (row : ℕ) (s2 m2 : List ℕ) → Putting u s0 m0 from stop s m row → row < stop
     → held s2 m2 ≡ row_aside u (numbers_of s row) (held s m) row
     → Putting u s0 m0 from stop s2 m2 (row + 1)
@@ -188,12 +185,3 @@ backing_more s0 m0 from stop s m row s2 m2 c h e =
 
     longer : (stop row from : ℕ) → from < row → row ≤ stop → suc (stop - row) ≡ stop - (row - 1)
     longer stop row from h r = omega arith
-
-pub backing_end : (s0 m0 : List ℕ) (from stop : ℕ) (s m : List ℕ) (row : ℕ) → Backing s0 m0 from stop s m row → row ≤ from
-    → held s m ≡ put_back (stop - from) (held s0 m0) from
-backing_end s0 m0 from stop s m row c h =
-    let l = c.low in
-    c.done ∙ ap (λ (k : ℕ). put_back (stop - k) (held s0 m0) k) (same row from h l)
-  where
-    same : (row from : ℕ) → row ≤ from → from ≤ row → row ≡ from
-    same row from h l = omega arith

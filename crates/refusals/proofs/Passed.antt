@@ -9,7 +9,3 @@ use Rattle.refusals.specs.declared.Refused.{Refused}
 pub passed : {A B : Type 0} (given : A → B) (r : Result A Refused) (e : Refused) → IsErrAnd r (λ x. x ≡ e) → answer_of given r ≡ refused (refusal e)
 passed given (Ok a) e h = absurd h
 passed given (Err x) e h = rw h
-
-pub passed_in : {A : Type 0} (r : Result A Refused) (e : Refused) → IsErrAnd r (λ x. x ≡ e) → refusal_in r ≡ Some (refusal e)
-passed_in (Ok a) e h = absurd h
-passed_in (Err x) e h = rw h

@@ -25,7 +25,6 @@ use Rattle.render_call.specs.Calls.{to_state, early_refusal}
 use Rattle.render_call.specs.Whole.{RenderCalled, Draws, Counted, Passing, Fitting, Takes, most_of}
 use Rattle.render_call.specs.declared.RenderState.{RenderState}
 use Rattle.render_call.specs.declared.RenderArgs.{RenderArgs}
-use Rattle.render_call.specs.declared.Drawn.{Drawn}
 use Rattle.render_call.proofs.Accepted.{Accepted, accepted}
 use Rattle.render_call.proofs.Early.{refused_early}
 use Rattle.render_call.proofs.Starts.{nested, starts}
@@ -90,13 +89,6 @@ module _ (source image : List ℕ) (state : RenderState) (args : RenderArgs) (st
   module _ (n : Bytes) (store2 marks2 : List ℕ) (c : Counted source image state args store marks n store2 marks2) where
     pub has_room : (out : List ℕ) → n.0 ≤ length out → Fitting source image state args store2 marks2 out
     has_room out l = rw (c.store_left_of, c.marks_left_of) (record { passing = h; room = let b = c.bytes in omega arith })
-
-    pub still_needed : (k : ℕ) → k ≡ marks_needed (args.stop - state.row) store state.row → k ≡ marks_needed (args.stop - state.row) store2 state.row
-    still_needed k e = rw c.store_left_of e
-
-    pub then_run : (out : List ℕ) (r : Result Drawn Refused) (marks3 out3 : List ℕ) → Draws source image state args store2 marks2 out r store2 marks3 out3
-        → Draws source image state args store marks out r store2 marks3 out3
-    then_run out r marks3 out3 k = rw c.store_left_of (rw (c.store_left_of, c.marks_left_of) at k)
 
 -- ---- the true run
 module _ (source image : List ℕ) (state : RenderState) (args : RenderArgs)

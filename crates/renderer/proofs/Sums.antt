@@ -151,9 +151,6 @@ module _ (s m : List ℕ) (from to : ℕ) (ends : List ℕ) (row end sum : ℕ) 
   pub reached : row ≤ end
   reached = nests_le t.nests
 
-  pub capped : to ≤ MAX_ROWS → sum < MEASURED_LIMIT
-  capped f = let a = t.cap in let b = low in let c = reached in omega arith
-
   -- nothing is ahead
   pub all : (room : ℕ) → sum ≤ room → to ≤ row → Measures s m from to room sum
   unfolding rest

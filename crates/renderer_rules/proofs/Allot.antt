@@ -64,12 +64,3 @@ module _ (v : View) (pg : Page) (stop : ℕ) where
   join_step F n k m r true c h e d a l rec = refl
   join_step F n k m r false true h e d a l rec = refl
   join_step F n k m r false false h e d a l rec = rec refl refl ∙ allot_turn F k m a l e (sooner (wants_row m) n k m.entered h d)
-
-  -- HOWEVER THE ALLOTMENTS FALL: to n rows and on to k is to k at once
-  pub allot_join : (f F n k : ℕ) (m : Machine) → n ≤ k → Fine v pg stop m → left stop m ≤ f → left stop m ≤ F
-      → allot F k (allot f n m) ≡ allot F k m
-  unfolding allot
-  allot_join zero F n k m h a p q = refl
-  allot_join (suc f) F n k m h a p q =
-      join_step F n k m (allot f n (turn v pg m)) (is_done v pg stop m) (wants_row m && leb n m.entered) h refl refl a q
-      (λ e d. let t = turned v pg stop m a e in let l = t.less in allot_join f F n k (turn v pg m) h t.fine (omega arith) (omega arith))

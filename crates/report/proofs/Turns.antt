@@ -117,9 +117,3 @@ module _ (lengths source image : List ℕ) (bytes : AreBytes image) where
 one_more : (p : Progress) (a : Answer CountResult) → (progress_by p a).files ≡ p.files + 1
 one_more p (refused r) = refl
 one_more p (accepted x) = refl
-
-pub goes_more : (lengths source image : List ℕ) (p q : Progress) (came : Result (Option ℕ) Cut) (bytes : ℕ) → came ≡ Ok (Some bytes)
-    → q ≡ progress_due lengths source image p came
-    → q.files ≡ p.files + 1
-goes_more lengths source image p q came bytes e f =
-    ap (λ (r : Progress). r.files) (f ∙ ap (progress_due lengths source image p) e) ∙ one_more p _

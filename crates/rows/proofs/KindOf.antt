@@ -68,9 +68,6 @@ number_same a b e = let p = kind_back a in let q = kind_back b in let r = ap kin
 pub not_number : {a : Kind} (b : Kind) {n : ℕ} → n ≡ number_of a → (a ≡ b → ⊥) → n ≡ number_of b → ⊥
 not_number {a} b e f q = f (number_same a b (sym e ∙ q))
 
-pub no_number : (b : Kind) {n : ℕ} → kind_of n ≡ None → n ≡ number_of b → ⊥
-no_number b e q = let p = kind_back b in let r = ap kind_of q in cc
-
 -- a number up to the last kind's has a kind
 pub some_kind : (n : ℕ) → n ≤ CALL → kind_of n ≡ None → ⊥
 some_kind zero l e = cc

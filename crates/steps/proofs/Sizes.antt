@@ -10,15 +10,14 @@ use lib.Dec.{eqb}
 use borrow.Author.Tests.{eqb-true, ne_eqb}
 use Rattle.laws.proofs.Booleans.{and_left, and_right, and_false}
 use Rattle.image.specs.Grammar.{Grammar, others, ◌⇒◌∣◌, grammar, is_list, is_optional, is_many, element, place, after, many, row_in, row_of, row_under_of}
-use Rattle.image.specs.Read.{Read, got, bad}
+use Rattle.image.specs.Read.{got}
 use Rattle.image.specs.Write.{Plain, Plains, written, writtens}
 use Rattle.ast.specs.Syntax.{Span}
-use Rattle.steps.specs.Steps.{Step, list_bytes, payload_steps, tree_steps, child_steps, pair_bytes, close_step, Contents, steps, image_of}
+use Rattle.steps.specs.Steps.{Step, list_bytes, payload_steps, tree_steps, child_steps, pair_bytes, close_step}
 use Rattle.steps.specs.Rows.{short}
-use Rattle.steps.specs.Writer.{children_from, record_from, contents_from, image_by, image_due}
+use Rattle.steps.specs.Writer.{record_from}
 use Rattle.steps.proofs.Fits.{text_steps, byte_steps, no_steps, Pays, text, byte, nothing, Fits, fits, FitsRow, ends, gone, here}
-use Rattle.steps.proofs.Taken.{list_append, record_taken, children_taken}
-use Rattle.steps.proofs.WholeList.{comment_steps, contents_taken}
+use Rattle.steps.proofs.Taken.{list_append, record_taken}
 
 -- ---- rows
 -- the rows of the grammar
@@ -119,44 +118,7 @@ record_from_size l left p at x end h =
     let s = record_size r.0 in
     (omega (arith, t.ends), t.within, omega (arith, t.ends))
 
--- children, with the step that closes their record
-pub children_from_size : (l : List ℕ) (left n p kind at : ℕ) (xs : Plains) (end : ℕ)
-    → children_from (record_from l left) l n (row_under_of p kind) at ≡ got xs end
-    → (at < end) × (end ≤ length l) × (length (writtens xs) ≤ 2 * (end - at) + 6)
-children_from_size l left n p kind at xs end h =
-    let r = children_taken l left (record_from l left) (record_taken l left) n (row_under_of p kind) at xs end h in
-    let t = r.1 in
-    let s = row_size r.0 4 (row_short p kind) in
-    let e = parts_size [] (child_steps xs) in
-    (omega (arith, t.ends), t.within, omega (arith, t.ends))
-
 -- ---- the image
 pub pairs_size : (cs : List Span) → length (pair_bytes cs) ≡ 8 * length cs
 pairs_size [] = refl
 pairs_size (c ∷ cs) = let e = pairs_size cs in omega arith
-
-comments_size : (cs : List Span) → length (list_bytes (comment_steps cs)) ≡ 9 * length cs
-comments_size [] = refl
-comments_size (c ∷ cs) = let e = comments_size cs in omega arith
-
-image_of_size : (l : List ℕ) (c : Contents) (end : ℕ) → contents_from l ≡ got c end → length (image_of c) ≤ 2 * length l + 7
-image_of_size l c end h =
-    let r = contents_taken l c end h in
-    let cs = comment_steps c.comments in
-    let s = record_size r.0.tree in
-    let e : length (list_bytes (steps c)) ≡ length (list_bytes cs) + length (list_bytes (tree_steps c.tree)) = simp (list_append, length-append) in
-    omega (
-      arith,
-      r.1.ends,
-      comments_size c.comments,
-      pairs_size c.comments,
-      length-append (pair_bytes c.comments) (written c.tree),
-    )
-
--- so that no sum of sizes wraps: an image has at most twice the bytes of its list, and seven
-pub image_size : (l : List ℕ) → length (image_due l) ≤ 2 * length l + 7
-image_size l = go (contents_from l) refl
-  where
-    go : (r : Read Contents) → contents_from l ≡ r → length (image_by r) ≤ 2 * length l + 7
-    go (got c end) h = image_of_size l c end h
-    go (bad n p) h = omega arith

@@ -15,9 +15,6 @@ pub record Counting (counts : List ℕ) (n i : ℕ) : Type 0 where
   pub inside : i ≤ length counts
   pub rest : total_from n (drop i counts) ≡ total counts
 
-pub counting_start : (counts : List ℕ) → Counting counts 0 0
-counting_start counts = record { inside = omega arith; rest = refl }
-
 module _ (counts : List ℕ) (n i : ℕ) (C : Counting counts n i) where
   pub counting_more : (m : ℕ) → i < length counts → m ≡ onward n (get_or counts i 0) → Counting counts m (i + 1)
   counting_more m h e =

@@ -64,6 +64,3 @@ module _ {A : Type 0} (same : A → A → Bool) (f : ℕ → A) (w : ℕ) (b : L
   unfolding agree
   agreeing_end h =
       let e : i ≡ length b = omega (arith, F.inside) in rw (e, drop-length) at F.rest
-
-pub agreeing_start : {A : Type 0} (same : A → A → Bool) (f : ℕ → A) (w : ℕ) (b : List A) (at : ℕ) → Agreeing same f w b at 0 at
-agreeing_start same f w b at = record { inside = omega arith; rest = refl }

@@ -11,7 +11,7 @@ use lib.Dec.{leb, eqb}
 use borrow.Author.Tests.{leb-true, le-leb, lt-leb}
 use Rattle.text.specs.Utf8.{boundary}
 use Rattle.text.specs.Newlines.{newline_places, counted, is_range, count_newlines}
-use Rattle.text.proofs.Boundaries.{boundary_inside, outside}
+use Rattle.text.proofs.Boundaries.{boundary_inside}
 use Rattle.laws.proofs.Booleans.{and_left, and_right, and_false}
 
 pub places_next : (m n : ℕ) (s : List ℕ) (at : ℕ) → m ≡ suc n
@@ -76,9 +76,6 @@ range_off_start s from to e = simp (e, and_false)
 pub range_off_end : (s : List ℕ) (from to : ℕ) → boundary s to ≡ false → is_range s from to ≡ false
 unfolding is_range
 range_off_end s from to e = simp (e, and_false)
-
-pub range_outside : (s : List ℕ) (from to : ℕ) → length s < to → is_range s from to ≡ false
-range_outside s from to h = range_off_end s from to (outside s to h)
 
 -- there none is counted, and the place is the range's end as given
 pub count_none : (s : List ℕ) (from to : ℕ) → is_range s from to ≡ false → count_newlines s from to ≡ counted to []

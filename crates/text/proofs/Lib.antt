@@ -8,7 +8,6 @@ pub mod Parts
 pub mod Prefixes
 pub mod Reached
 pub mod Runs
-pub mod Searches
 pub mod Sequences
 pub mod Tests
 pub mod Trims
