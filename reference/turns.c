@@ -27,6 +27,7 @@ static uint32_t *store;
 static uint8_t *marks, *output;
 static uint64_t out[16];
 static const uint64_t fresh[16];
+static uint64_t rules[SIDES] = {RRUFTHIM_WIDTHS_SUPPLIED, RRUFTHIM_WIDTHS_SUPPLIED};
 
 static double now(void) {
     struct timespec t;
@@ -42,13 +43,13 @@ static void accepted(void) {
 }
 
 static void lay(int side, const struct file *f) {
-    uint64_t args[3] = {f->declarations, 1, 0};
+    uint64_t args[RRUFTHIM_LAYOUT_ARGS] = {f->declarations, 1, RRUFTHIM_AS_ROTO, rules[side]};
     (side == AFTER ? OF(after, layout) : OF(before, layout))(f->source, f->source_len, f->image, f->image_len, store, STORE, fresh, args, out);
     accepted();
 }
 
 static void render(int side, const struct file *f) {
-    uint64_t args[2] = {f->rows, 80};
+    uint64_t args[RRUFTHIM_RENDER_ARGS] = {f->rows, RRUFTHIM_REFERENCE_WIDTH, rules[side]};
     (side == AFTER ? OF(after, render) : OF(before, render))(f->source, f->source_len, f->image, f->image_len, store, STORE, marks, MARKS, output, OUTPUT,
                                                              fresh, args, out);
     accepted();
@@ -81,7 +82,7 @@ static void line(const char *name, int step, const struct file *files, uint64_t 
     double sum[SIDES] = {0, 0};
     for (uint64_t k = 0; k < count; k++) {
         double least[SIDES];
-        lay(AFTER, &files[k]);
+        lay(AFTER, &files[k]); /* By its rule: names are then as wide for both sides. */
         in_turn(step, &files[k], least);
         sum[BEFORE] += least[BEFORE];
         sum[AFTER] += least[AFTER];
@@ -126,11 +127,12 @@ static void input(const char *path, const char *name) {
 
 int main(int argc, char **argv) {
     char path[4096], name[256];
-    FILE *names = argc == 3 ? fopen(argv[2], "r") : NULL;
+    FILE *names = argc == 4 ? fopen(argv[2], "r") : NULL;
     store = calloc(STORE, sizeof *store);
     marks = calloc(MARKS, 1);
     output = calloc(OUTPUT, 1);
     if (!names || !store || !marks || !output) return 2;
+    rules[AFTER] = strtoul(argv[3], NULL, 10);
     for (int k = 0; fgets(name, sizeof name, names); k++) {
         name[strcspn(name, "\n")] = 0;
         snprintf(path, sizeof path, "%s/%d", argv[1], k);

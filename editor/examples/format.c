@@ -1,4 +1,5 @@
-/* The first worked example of docs/01-scope.md, formatted; then an image of a version that there is not, which is refused. */
+/* The first worked example of docs/01-scope.md, formatted; then an image of a version that there is not, which is refused; then the columns of a
+   text by each rule of widths. */
 #include <stdio.h>
 #include "rrufthim.h"
 
@@ -13,7 +14,7 @@ static const uint8_t IMAGE[] = {
 static void format(const uint8_t *image, size_t image_len)
 {
     static const uint8_t source[1] = {0};
-    static const uint64_t choice[RRUFTHIM_FORMAT_CHOICE] = {RRUFTHIM_REFERENCE_WIDTH, RRUFTHIM_ALL_COMMENTS};
+    static const uint64_t choice[RRUFTHIM_FORMAT_CHOICE] = {RRUFTHIM_REFERENCE_WIDTH, RRUFTHIM_ALL_COMMENTS, RRUFTHIM_WIDTHS_SUPPLIED};
     uint8_t output[64];
     uint64_t out[RRUFTHIM_FORMAT_OUT];
 
@@ -28,6 +29,22 @@ static void format(const uint8_t *image, size_t image_len)
     }
 }
 
+/* Two characters of three bytes and two columns each, and of rules one too many. */
+static void columns(void)
+{
+    static const uint8_t text[] = {0xE6, 0x97, 0xA5, 0xE6, 0x9C, 0xAC};
+    uint64_t rule, out[RRUFTHIM_COLUMNS_OUT];
+
+    for (rule = RRUFTHIM_WIDTHS_SUPPLIED; rule <= RRUFTHIM_WIDTHS_UNICODE_16_0 + 1; rule++) {
+        rrufthim_columns(text, sizeof text, rule, sizeof text, out);
+        if (out[0] != 0) {
+            printf("rule %lu: refused %lu at %lu\n", (unsigned long)rule, (unsigned long)out[0], (unsigned long)out[1]);
+        } else {
+            printf("rule %lu: %lu columns\n", (unsigned long)rule, (unsigned long)out[1]);
+        }
+    }
+}
+
 int main(void)
 {
     uint8_t other[sizeof IMAGE];
@@ -39,5 +56,6 @@ int main(void)
     other[0] = 2;
     format(IMAGE, sizeof IMAGE);
     format(other, sizeof other);
+    columns();
     return 0;
 }

@@ -37,9 +37,10 @@ const PAIR: usize = 2;
 pub(crate) const SAVE: Program = Program {
     name: "save",
     counted: "file",
-    usage: "usage: save [--force] [--] FRAME TARGET [FRAME TARGET]...",
+    usage: "\
+usage: save [--force] [--unicode V] [--] FRAME TARGET [FRAME TARGET]...",
     manual: MANUAL,
-    takes: &["--force"],
+    takes: &["--force", "--unicode"],
     fault_in,
 };
 
@@ -51,6 +52,8 @@ and left alone. Mode, owner and links are kept. Each pair is tried, whatever
 became of those before it.
 
   --force     overwrites what was changed since its frame was made
+  --unicode V columns by Unicode V, 15.1 or 16.0, in place of what the frames
+              say of names and of the bytes of literals
   --help      says this
 
 Status: 2 if a frame is refused, a target is left alone, or something can't be
@@ -80,7 +83,7 @@ fn fault_in(paths: &[PathBuf]) -> Option<String> {
 
 fn save_all(order: &Order, report: &mut Report<'_>) {
     // One for all saves: its buffers are kept.
-    let mut formatter = Formatter::new();
+    let mut formatter = Formatter::new().with_options(order.options.clone());
     for pair in order.paths.chunks_exact(PAIR) {
         save(&mut formatter, &pair[0], &pair[1], order, report);
     }

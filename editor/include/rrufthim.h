@@ -1,7 +1,7 @@
 /*
  * The proved formatter for Roto scripts, as C calls it. The functions are those of librrufthim.a: target/staticlib/libexports.a, which
  * `tools/build exports` writes (x86-64 Linux), under a name that no other library has. docs/01-scope.md has the rules: the tree image,
- * rows, marks, states and refusals; docs/02-change-requests.md those of tallies, widths, modes, steps and batches.
+ * rows, marks, states and refusals; docs/02-change-requests.md those of tallies, widths, modes, steps, batches and rules of widths.
  *
  * Buffers. A pointer to bytes, rows or a table goes with the number of its elements; state, args, choice, tallies and out have a fixed
  * number of places. No pointer may be NULL, even where the number is 0. store and table must be aligned for uint32_t, those of a fixed
@@ -12,6 +12,10 @@
  * Answers. out[0] is 0 if the call is accepted; the other numbers are then those named at each function. Else out[0] is the refusal's
  * number and out[1] its place, and the rest of out is left as it was. A refused call changes no other buffer. An accepted one leaves what
  * lies behind the rows, marks, table and bytes that it writes as it was. (rrufthim_newlines refuses nothing, and its out has other numbers.)
+ *
+ * Rules of widths. Each call that lays out or renders is told by which of three rules texts are measured: RRUFTHIM_WIDTHS_SUPPLIED, as
+ * Roto's own formatter does it (names as wide as the image says, literals by their bytes), or an edition of Unicode, which counts columns
+ * for each character. Japanese has three bytes for most characters of two columns, so that by the first rule lists of literals wrap that fit.
  *
  * Flags. In state and args every number but 0 means yes; in out a flag is 0 or 1.
  *
@@ -44,14 +48,15 @@ typedef char rrufthim_lengths_have_64_bits[sizeof(size_t) == 8 ? 1 : -1];
 #define RRUFTHIM_MORE_MARKS 9       /* there are too few marks: marks needed */
 #define RRUFTHIM_MORE_OUTPUT 10     /* the output is too short: bytes needed */
 #define RRUFTHIM_BAD_ROW 11         /* a row of the store can't be rendered, or the stop is past the store or 2,097,152: row, or 0 for the stop */
-#define RRUFTHIM_BAD_STATE 12       /* the state, the marks in use or the stop doesn't fit, or the mode (comments at the foot) is over 1 or not
-                                       that of the calls before: 0 */
+#define RRUFTHIM_BAD_STATE 12       /* the state, the marks in use or the stop doesn't fit, or the mode (comments at the foot) is over 1, or it or
+                                       the rule of widths not that of the calls before: 0 */
 #define RRUFTHIM_BAD_TALLIES 14     /* the tallies count 4,096 files, one of them is over 4,294,967,296, or more groups are wrapped than given: 0 */
 #define RRUFTHIM_BAD_WIDTH 15       /* the width is under 40 or over 200 columns, or not that of the calls before: 0 */
 #define RRUFTHIM_BAD_STEP 16        /* a step is unknown, cut off or wrong there, or something is missing at the list's end: offset in the list */
 #define RRUFTHIM_MORE_ROOM 17       /* the output is too short for the image or the steps, or the image's body over 1,048,576 bytes: bytes needed */
 #define RRUFTHIM_BAD_BATCH 18       /* a frame of the batch runs past the buffer, or is the 257th: frame's offset in the buffer */
 #define RRUFTHIM_MORE_FOR_BATCH 19  /* the table of the batch is too short, or the output: numbers of the table, or bytes, needed */
+#define RRUFTHIM_BAD_RULE 20        /* the rule of widths is none of 1 (supplied), 2 (Unicode 15.1) and 3 (Unicode 16.0): 0 */
 
 /* Limits: past them a file is refused. A text may be longer than a source: such a text can't be formatted again. */
 #define RRUFTHIM_MAX_SOURCE 65536    /* bytes of a source */
@@ -64,6 +69,9 @@ typedef char rrufthim_lengths_have_64_bits[sizeof(size_t) == 8 ? 1 : -1];
 #define RRUFTHIM_REFERENCE_WIDTH 80  /* what Roto's own formatter has */
 #define RRUFTHIM_AS_ROTO 0           /* modes: comments after the last declaration are left out, as by Roto's own formatter */
 #define RRUFTHIM_ALL_COMMENTS 1      /* they are kept, at the foot of the text */
+#define RRUFTHIM_WIDTHS_SUPPLIED 1   /* rules of widths: names are as wide as the image says, literals by their bytes, as by Roto's own */
+#define RRUFTHIM_WIDTHS_UNICODE_15_1 2 /* a character has 2 columns if East_Asian_Width is W or F, else 0 if General_Category is Mn or Me, */
+#define RRUFTHIM_WIDTHS_UNICODE_16_0 3 /* else 1: by Unicode 15.1, and by Unicode 16.0 */
 #define RRUFTHIM_MAX_FILES 4096      /* files that tallies count */
 #define RRUFTHIM_MAX_TALLY 4294967296 /* each of the tallies handed in */
 #define RRUFTHIM_MAX_BATCH 256       /* files of a batch */
@@ -72,22 +80,23 @@ typedef char rrufthim_lengths_have_64_bits[sizeof(size_t) == 8 ? 1 : -1];
 #define RRUFTHIM_ROW 9               /* numbers of the store that a row takes; store_len / 9 rows, rounded down */
 #define RRUFTHIM_MAX_FILE_ROWS 1800  /* the rows, and the marks, of rrufthim_format, rrufthim_count and each file of a batch */
 #define RRUFTHIM_COUNT_OUTPUT 65536  /* bytes of output that rrufthim_count has of its own */
-#define RRUFTHIM_LAYOUT_STATE 8      /* places of a layout state */
-#define RRUFTHIM_RENDER_STATE 6      /* places of a rendering state */
-#define RRUFTHIM_LAYOUT_ARGS 3       /* places of a layout call's arguments */
-#define RRUFTHIM_RENDER_ARGS 2       /* places of a rendering call's arguments */
-#define RRUFTHIM_FORMAT_CHOICE 2     /* places of a whole file's choice */
+#define RRUFTHIM_LAYOUT_STATE 9      /* places of a layout state */
+#define RRUFTHIM_RENDER_STATE 7      /* places of a rendering state */
+#define RRUFTHIM_LAYOUT_ARGS 4       /* places of a layout call's arguments */
+#define RRUFTHIM_RENDER_ARGS 3       /* places of a rendering call's arguments */
+#define RRUFTHIM_FORMAT_CHOICE 3     /* places of a whole file's choice */
 #define RRUFTHIM_TABLE_ROW 3         /* numbers of a batch's table that a file takes */
 #define RRUFTHIM_TALLIES 8           /* places of tallies */
 #define RRUFTHIM_CHECK_OUT 4         /* places of each function's out */
-#define RRUFTHIM_LAYOUT_OUT 10
-#define RRUFTHIM_RENDER_OUT 8
+#define RRUFTHIM_LAYOUT_OUT 11
+#define RRUFTHIM_RENDER_OUT 9
 #define RRUFTHIM_FORMAT_OUT 5
 #define RRUFTHIM_NEWLINES_OUT 2
 #define RRUFTHIM_COUNT_OUT 18
 #define RRUFTHIM_WRITE_OUT 2
 #define RRUFTHIM_STEPS_OUT 2
 #define RRUFTHIM_BATCH_OUT 3
+#define RRUFTHIM_COLUMNS_OUT 2
 
 /*
  * Which library this header is for.
@@ -100,9 +109,9 @@ typedef char rrufthim_lengths_have_64_bits[sizeof(size_t) == 8 ? 1 : -1];
  * major and the minor, for #if. The minor is raised where something is added, the major where something changes that was there; as long as
  * the major is 0, the minor is raised for both. Another shape is always another version too.
  */
-#define RRUFTHIM_SHAPE 1
-#define RRUFTHIM_VERSION "0.2"
-#define RRUFTHIM_VERSION_NUMBER 2
+#define RRUFTHIM_SHAPE 2
+#define RRUFTHIM_VERSION "0.3"
+#define RRUFTHIM_VERSION_NUMBER 3
 
 #define RRUFTHIM_JOIN_AS_IT_IS(name, number) name##number
 #define RRUFTHIM_JOIN(name, number) RRUFTHIM_JOIN_AS_IT_IS(name, number)
@@ -116,6 +125,7 @@ typedef char rrufthim_lengths_have_64_bits[sizeof(size_t) == 8 ? 1 : -1];
 #define rrufthim_write RRUFTHIM_SYMBOL(write)
 #define rrufthim_steps RRUFTHIM_SYMBOL(steps)
 #define rrufthim_batch RRUFTHIM_SYMBOL(batch)
+#define rrufthim_columns RRUFTHIM_SYMBOL(columns)
 
 /*
  * Whether a source and its tree image are accepted. Refusals 1 to 7.
@@ -131,14 +141,17 @@ void rrufthim_check(
 /*
  * Lays out the declarations from the state's next one up to a stop, that one not included. The first call lays the shebang too. Closing,
  * allowed where the stop is the number of declarations, adds the final line and ends the layout; in mode 1 it lays the comments that are
- * still waiting before that line. Refusals 1 to 7, 12, 8.
+ * still waiting before that line. Refusals 20, 1 to 7, 12, 8.
  *
  * state: [0] begun (flag), [1] closed (flag), [2] next declaration, [3] next row, [4] next group number, [5] comments placed,
- *        [6] position in the source, [7] mode. Fresh: all 0. Later: out[2] to out[9] of the last accepted call.
- * args:  [0] the declaration to stop before, [1] whether to close (flag), [2] the mode, RRUFTHIM_ALL_COMMENTS or RRUFTHIM_AS_ROTO: the
- *        same in all calls of a run. 1 is what a user should get; nothing is chosen unless you do.
- * store: is written from the state's next row on. Five rows for each 13 bytes of image are enough for what is still to be laid out.
- * out:   [0] 0, [1] comments that no row holds yet, [2] to [9] the new state. After closing, out[1] comments are in no row and so not in
+ *        [6] position in the source, [7] mode, [8] rule of widths, 0 for none yet. Fresh: all 0. Later: out[2] to out[10] of the last
+ *        accepted call.
+ * args:  [0] the declaration to stop before, [1] whether to close (flag), [2] the mode, RRUFTHIM_ALL_COMMENTS or RRUFTHIM_AS_ROTO, [3] the
+ *        rule of widths, RRUFTHIM_WIDTHS_..: both the same in all calls of a run. Mode 1 is what a user should get; nothing is chosen unless
+ *        you do.
+ * store: is written from the state's next row on. Five rows for each 13 bytes of image are enough for what is still to be laid out. By an
+ *        edition of Unicode the rows of names hold their sums, and the image's widths are not looked at.
+ * out:   [0] 0, [1] comments that no row holds yet, [2] to [10] the new state. After closing, out[1] comments are in no row and so not in
  *        the text: the last out[1] of the image's list. In mode 1 there are none; in mode 0 look at it before you save.
  */
 void rrufthim_layout(
@@ -150,15 +163,17 @@ void rrufthim_layout(
     uint64_t out[RRUFTHIM_LAYOUT_OUT]);
 
 /*
- * Renders the rows from the state's next one up to a stop, at a width. Refusals 1, 3, 11, 12, 15, 9, 10.
+ * Renders the rows from the state's next one up to a stop, at a width. Refusals 20, 1, 3, 11, 12, 15, 9, 10; by an edition of Unicode also 2,
+ * before 3, and 11 for a row's text that isn't UTF-8 or cuts a character.
  *
- * state:  [0] indent, [1] next indent, [2] column, [3] marks in use, [4] next row, [5] width, 0 for none yet. Fresh: all 0. Later: out[2]
- *         to out[7] of the last accepted call.
- * args:   [0] the row to stop before, [1] the width, 40 to 200 columns: the same in all calls of a run.
+ * state:  [0] indent, [1] next indent, [2] column, [3] marks in use, [4] next row, [5] width and [6] rule of widths, 0 for none yet. Fresh:
+ *         all 0. Later: out[2] to out[8] of the last accepted call.
+ * args:   [0] the row to stop before, [1] the width, 40 to 200 columns, [2] the rule of widths, RRUFTHIM_WIDTHS_..: both the same in all
+ *         calls of a run. Literals are measured by it; names are as wide as layout wrote them, so let layout have the same rule.
  * store:  is used during the call, and holds the same after it.
  * marks:  a byte for each group number, 1 wrapped, 0 not; keep them from call to call. What they hold before the first doesn't matter.
  * output: is written from its start on, in every call: take the bytes before the next one.
- * out:    [0] 0, [1] bytes written, [2] to [7] the new state.
+ * out:    [0] 0, [1] bytes written, [2] to [8] the new state.
  */
 void rrufthim_render(
     const uint8_t *source, size_t source_len,
@@ -171,10 +186,11 @@ void rrufthim_render(
     uint64_t out[RRUFTHIM_RENDER_OUT]);
 
 /*
- * Lays out and renders a whole file of at most 1,800 rows. Larger files are refused by 8: make the two calls above. Refusals 1 to 7, 12 for
- * the mode, 15, 8, 9, 10.
+ * Lays out and renders a whole file of at most 1,800 rows. Larger files are refused by 8: make the two calls above. Refusals 20, 1 to 7, 12
+ * for the mode, 15, 8, 9, 10.
  *
- * choice: [0] the width, 40 to 200 columns, [1] the mode, RRUFTHIM_ALL_COMMENTS or RRUFTHIM_AS_ROTO.
+ * choice: [0] the width, 40 to 200 columns, [1] the mode, RRUFTHIM_ALL_COMMENTS or RRUFTHIM_AS_ROTO, [2] the rule of widths,
+ *         RRUFTHIM_WIDTHS_..
  * output: is written from its start on.
  * out:    [0] 0, [1] bytes written, [2] comments that the text doesn't hold, the last so many of the image's list, [3] rows and
  *         [4] group numbers that the file took. In mode 1 out[2] is 0; in mode 0 look at it before you save.
@@ -200,8 +216,9 @@ void rrufthim_newlines(
     uint64_t out[RRUFTHIM_NEWLINES_OUT]);
 
 /*
- * Counts a file: formats it at 80 columns in mode 0, in 1,800 rows, 1,800 marks and 65,536 bytes of output of its own, and adds its
- * figures to the tallies. The tallies of the same files are the same in any order. Refusals 1 to 10, then 14; a refused file counts nowhere.
+ * Counts a file: formats it at 80 columns in mode 0 with supplied widths, in 1,800 rows, 1,800 marks and 65,536 bytes of output of its own,
+ * and adds its figures to the tallies. The tallies of the same files are the same in any order. Refusals 1 to 10, then 14; a refused file
+ * counts nowhere.
  *
  * tallies: [0] files counted, and of them all [1] bytes and [2] newlines of the texts, [3] the greatest column, [4] group numbers given,
  *          [5] groups wrapped, [6] comments in the texts, [7] comments that they don't hold. Fresh: all 0. Later: out[8] to out[15] of
@@ -252,9 +269,9 @@ void rrufthim_steps(
  *
  * frames: for each file its source's length and its image's, four bytes each, the highest first; the source; the image. Nothing stands
  *         between two files or behind the last. No byte at all is a batch of no file.
- * choice: as for rrufthim_format, for all files. A width or a mode that can't be chosen refuses each file, in its row of the table.
- * table:  three numbers a file, in their order: 0 or what refuses the file (1 to 9, 12, 15), 0 or the place of that, and the bytes of its
- *         text. 19 is about the table if table_len is under three for each file; it is then out[1] places, else out[1] bytes of output.
+ * choice: as for rrufthim_format, for all files. A width, mode or rule that can't be chosen refuses each file, in its row of the table.
+ * table:  three numbers a file, in their order: 0 or what refuses the file (1 to 9, 12, 15, 20), 0 or the place of that, and the bytes of
+ *         its text. 19 is about the table if table_len is under three for each file; it is then out[1] places, else out[1] bytes of output.
  * output: gets the texts one after another, from its start on.
  * out:    [0] 0, [1] number of files, [2] bytes of all texts. In mode 0 the table doesn't say which texts lack comments: rrufthim_format
  *         does, file by file.
@@ -265,6 +282,20 @@ void rrufthim_batch(
     uint32_t *table, size_t table_len,
     uint8_t *output, size_t output_len,
     uint64_t out[RRUFTHIM_BATCH_OUT]);
+
+/*
+ * How many columns a text takes by a rule of widths: what lines are measured by, for who shows it. Refusal 20.
+ *
+ * text:     any bytes. Of a text that isn't UTF-8, an edition of Unicode counts what stands before the first bad sequence.
+ * rule:     RRUFTHIM_WIDTHS_..
+ * supplied: the columns by RRUFTHIM_WIDTHS_SUPPLIED, by which a text has those that its caller says. By the others it isn't looked at.
+ * out:      [0] 0, [1] the columns.
+ */
+void rrufthim_columns(
+    const uint8_t *text, size_t text_len,
+    uint64_t rule,
+    uint64_t supplied,
+    uint64_t out[RRUFTHIM_COLUMNS_OUT]);
 
 #ifdef __cplusplus
 }

@@ -149,7 +149,8 @@ pub fn encode_written(
 /// `width` is asked once for each text in the image's order: the shebang,
 /// trimmed at its end, then names as they come. The formatted text equals the
 /// original's if it gives what the crate `unicode_width` does;
-/// [`simple_width`] does without.
+/// [`simple_width`] does without. Where [`Widths`](crate::Widths) of Unicode
+/// are chosen, it isn't looked at.
 ///
 /// # Errors
 ///

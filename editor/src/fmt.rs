@@ -25,7 +25,9 @@ use crate::{
 /// - What the original panics on (a span outside the source or off a
 ///   character's boundary) and what is over the limits of the tree image is
 ///   an error.
-/// - Widths of texts are [`simple_width`]'s.
+/// - Widths of names are [`simple_width`]'s. Literals are counted in bytes, as
+///   by the original; who formats Japanese or Chinese chooses an edition of
+///   Unicode for both ([`Widths`](crate::Widths)) and calls [`fmt_written`].
 ///
 /// For the original's text, [`Options::AS_ROTO`] and the widths of the crate
 /// `unicode_width`, call [`fmt_written`] with [`write_tree`]; the answer then

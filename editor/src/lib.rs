@@ -81,7 +81,7 @@ pub use formatted::{CommentsLeft, Formatted};
 pub use formatter::Formatter;
 pub use in_parts::InParts;
 pub use linked::SHAPE;
-pub use options::{Comments, Options};
+pub use options::{Comments, Options, Widths};
 pub use place::Place;
 pub use refusal::{Refusal, RefusalRow};
 pub use writer::{ImageWriter, NO_SPAN, OpenRecord, WriteResult};

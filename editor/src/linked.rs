@@ -14,7 +14,7 @@ compile_error!("the static library is for 64-bit machines");
 /// here and wherever else it stands.
 macro_rules! shape {
     () => {
-        1
+        2
     };
 }
 
@@ -99,38 +99,38 @@ linked! {
     fn check(source: &[u8], image: &[u8], out: &mut [u64; 4]);
 
     /// `state`: begun, closed, next declaration, next row, next number,
-    /// comments placed, position, mode. `args`: the declaration to stop
-    /// before, whether to close, the mode. `out`: 0, comments left, the new
-    /// state; or number, place.
+    /// comments placed, position, mode, rule. `args`: the declaration to stop
+    /// before, whether to close, the mode, the rule. `out`: 0, comments left,
+    /// the new state; or number, place.
     fn layout(
         source: &[u8],
         image: &[u8],
         store: &mut [u32],
-        state: &[u64; 8],
-        args: &[u64; 3],
-        out: &mut [u64; 10],
+        state: &[u64; 9],
+        args: &[u64; 4],
+        out: &mut [u64; 11],
     );
 
-    /// `state`: indent, next_indent, column, marks in use, next row, width.
-    /// `args`: the row to stop before, the width. `out`: 0, bytes written,
-    /// the new state; or number, place.
+    /// `state`: indent, next_indent, column, marks in use, next row, width,
+    /// rule. `args`: the row to stop before, the width, the rule. `out`: 0,
+    /// bytes written, the new state; or number, place.
     fn render(
         source: &[u8],
         image: &[u8],
         store: &mut [u32],
         marks: &mut [u8],
         output: &mut [u8],
-        state: &[u64; 6],
-        args: &[u64; 2],
-        out: &mut [u64; 8],
+        state: &[u64; 7],
+        args: &[u64; 3],
+        out: &mut [u64; 9],
     );
 
-    /// `choice`: the width, the mode. `out`: 0, bytes written, comments left,
-    /// rows, numbers; or number, place.
+    /// `choice`: the width, the mode, the rule. `out`: 0, bytes written,
+    /// comments left, rows, numbers; or number, place.
     fn format(
         source: &[u8],
         image: &[u8],
-        choice: &[u64; 2],
+        choice: &[u64; 3],
         output: &mut [u8],
         out: &mut [u64; 5],
     );
@@ -160,13 +160,17 @@ linked! {
         out: &mut [u64; 2],
     );
 
-    /// `choice`: the width, the mode. `out`: 0, files, bytes of all texts; or
-    /// number, place.
+    /// `choice`: the width, the mode, the rule. `out`: 0, files, bytes of all
+    /// texts; or number, place.
     fn batch(
         frames: &[u8],
-        choice: &[u64; 2],
+        choice: &[u64; 3],
         table: &mut [u32],
         output: &mut [u8],
         out: &mut [u64; 3],
     );
+
+    /// The columns of a text by a rule; by 1 they are `supplied`. `out`: 0,
+    /// columns; or number, place.
+    fn columns(text: &[u8], rule: u64, supplied: u64, out: &mut [u64; 2]);
 }

@@ -1,4 +1,4 @@
-//! Why a call is turned down: the table of docs/01-scope.md, and 14 to 19 of
+//! Why a call is turned down: the table of docs/01-scope.md, and 14 to 20 of
 //! docs/02-change-requests.md.
 
 use std::{error::Error, fmt};
@@ -133,8 +133,8 @@ refusals! {
         store or 2,097,152",
         row: "row, or 0 for the stop";
     12 BadState "the state, the marks in use or the stop doesn't fit, or the \
-        mode (comments at the foot) is over 1 or not that of the calls \
-        before";
+        mode (comments at the foot) is over 1, or it or the rule of widths \
+        not that of the calls before";
     13 BadFrame "the program's frame is over 32,768 bytes or cut off";
     14 BadTallies "the tallies count 4,096 files, one of them is over \
         4,294,967,296, or more groups are wrapped than given";
@@ -150,6 +150,8 @@ refusals! {
         at: "frame's offset in the buffer";
     19 MoreForBatch "the table of the batch is too short, or the output",
         needed: "numbers of the table, or bytes, needed";
+    20 BadRule "the rule of widths is none of 1 (supplied), 2 (Unicode 15.1) \
+        and 3 (Unicode 16.0)";
 }
 
 impl Refusal {

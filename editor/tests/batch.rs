@@ -4,6 +4,7 @@ mod support;
 
 use rrufthim::{
     Batch, Cause, File, FormatError, Formatted, Formatter, Options, Refusal,
+    Widths,
     ast::*,
     calls::{TABLE_ROW, format_batch, format_file},
     encode,
@@ -114,9 +115,10 @@ fn call(
 }
 
 /// Options of all sorts, with a width that isn't legal.
-fn ways() -> [Options; 4] {
+fn ways() -> [Options; 5] {
     [
         Options::default(),
+        Options::default().with_widths(Widths::Unicode15_1),
         Options::AS_ROTO,
         Options::default().with_width(40),
         Options::default().with_width(39),

@@ -55,6 +55,7 @@ fn cuts_leave_what_one_go_leaves() {
         assert_eq!(state.next_row, due.rows);
         assert_eq!(state.next_number, due.numbers);
         assert_eq!((state.comments_placed, state.mode), (3, 1));
+        assert_eq!(state.rule, 1);
         assert_eq!(buffers.store[..rows], whole.store[..rows]);
         assert_eq!(buffers.store[rows..], whole.store[rows..]);
         let text = draw(&mut buffers, file, &[0, due.rows]);

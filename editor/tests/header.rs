@@ -17,7 +17,7 @@ use rrufthim::{
 #[test]
 fn all_say_the_same() {
     let exported = exported(&exports());
-    assert_eq!(exported.len(), 9);
+    assert_eq!(exported.len(), 10);
     assert_eq!(linked(LINKED), exported);
     assert_eq!(declared(HEADER), exported);
     let check = format!("rrufthim_check_s{SHAPE}");
@@ -57,7 +57,7 @@ fn another_number_is_found() {
 fn a_difference_is_found() {
     let changes = [
         ("uint64_t out[RRUFTHIM_CHECK_OUT]", "uint64_t out[3]"),
-        ("_LAYOUT_STATE 8", "_LAYOUT_STATE 7"),
+        ("_LAYOUT_STATE 9", "_LAYOUT_STATE 8"),
         ("_TALLIES 8", "_TALLIES 7"),
         ("uint32_t *store", "uint64_t *store"),
         ("const uint64_t state", "uint64_t state"),
@@ -68,14 +68,19 @@ fn a_difference_is_found() {
         ("uint8_t *marks, size_t marks_len,", "uint8_t *marks,"),
         ("void rrufthim_render", "void rrufthim_draw"),
         ("_NEWLINES_OUT 2", "_NEWLINES_OUT 3"),
-        ("_RENDER_ARGS 2", "_RENDER_ARGS 1"),
-        ("_LAYOUT_ARGS 3", "_LAYOUT_ARGS 2"),
-        ("_FORMAT_CHOICE 2", "_FORMAT_CHOICE 1"),
+        ("_RENDER_ARGS 3", "_RENDER_ARGS 2"),
+        ("_LAYOUT_ARGS 4", "_LAYOUT_ARGS 3"),
+        ("_FORMAT_CHOICE 3", "_FORMAT_CHOICE 2"),
         ("_WRITE_OUT 2", "_WRITE_OUT 3"),
         ("const uint8_t *steps", "uint8_t *steps"),
         ("_BATCH_OUT 3", "_BATCH_OUT 5"),
         ("uint32_t *table", "const uint32_t *table"),
         ("const uint8_t *frames", "uint8_t *frames"),
+        ("_COLUMNS_OUT 2", "_COLUMNS_OUT 3"),
+        (
+            "uint64_t rule,\n    uint64_t supplied",
+            "uint64_t supplied,\n    uint64_t rule",
+        ),
     ];
     let exported = exported(&exports());
     for (from, to) in changes {
@@ -89,7 +94,7 @@ fn a_difference_is_found() {
 #[test]
 fn a_difference_in_linked_is_found() {
     let changes = [
-        ("state: &[u64; 8]", "state: &[u64; 7]"),
+        ("state: &[u64; 9]", "state: &[u64; 8]"),
         ("table: &mut [u32]", "table: &[u32]"),
         ("start: u64, end: u64", "end: u64, start: u64"),
         ("fn render(", "fn draw("),
@@ -149,6 +154,10 @@ fn sizes_have_their_names() {
     // The modes of docs/02-change-requests.md, 4.
     assert_eq!(value("RRUFTHIM_AS_ROTO"), 0);
     assert_eq!(value("RRUFTHIM_ALL_COMMENTS"), 1);
+    // The rules of the same, 8.
+    assert_eq!(value("RRUFTHIM_WIDTHS_SUPPLIED"), 1);
+    assert_eq!(value("RRUFTHIM_WIDTHS_UNICODE_15_1"), 2);
+    assert_eq!(value("RRUFTHIM_WIDTHS_UNICODE_16_0"), 3);
     assert_eq!(value("RRUFTHIM_MAX_FILES"), MAX_FILES);
     assert_eq!(value("RRUFTHIM_MAX_TALLY"), MAX_TALLY);
     assert_eq!(value("RRUFTHIM_MAX_BATCH"), MAX_BATCH);

@@ -3,7 +3,8 @@
 mod support;
 
 use rrufthim::{
-    Cause, File, Formatter, InParts, Options, Refusal, ast::Extras, encode,
+    Cause, File, Formatter, InParts, Options, Refusal, Widths, ast::Extras,
+    encode,
 };
 use support::{DECLARATIONS, SOURCE, constants, tariff_image};
 
@@ -86,8 +87,10 @@ fn options_are_chosen_once() {
         InParts::new(File::new(SOURCE, &image)).expect("accepted");
     parts.advance(1).expect("a part");
     let wider = Options::default().with_width(100);
+    let measured = Options::default().with_widths(Widths::Unicode16_0);
     for (other, refusal) in [
         (Options::AS_ROTO, Refusal::BadState),
+        (measured, Refusal::BadState),
         (wider, Refusal::BadWidth),
     ] {
         parts = parts.with_options(other);

@@ -4,7 +4,7 @@
 mod support;
 
 use rrufthim::{
-    Cause, Comments, File, Formatter, Options, Refusal,
+    Cause, Comments, File, Formatter, Options, Refusal, Widths,
     calls::{
         LayoutArgs, LayoutState, ROW, RenderArgs, RenderState, check,
         format_file, layout, render,
@@ -30,6 +30,15 @@ fn try_render(
 ) -> Result<usize, Refusal> {
     let written = buffers.render(file, state, stop, &Options::default())?;
     Ok(written.bytes)
+}
+
+/// The default, or an edition of Unicode.
+fn any_rule(random: &mut Random) -> Options {
+    Options::default().with_widths(match random.below(3) {
+        0 => Widths::Supplied,
+        1 => Widths::Unicode15_1,
+        _ => Widths::Unicode16_0,
+    })
 }
 
 #[test]
@@ -114,13 +123,15 @@ fn foreign_layout_states() {
             0 => random.wild(),
             mode => mode - 1,
         };
+        state.rule = match random.below(5) {
+            0 => random.wild(),
+            rule => rule - 1,
+        };
         let (stop, close) = (random.wild(), random.below(2) == 0);
         let args = LayoutArgs::up_to(stop).with_close(close);
+        let comments = [Comments::All, Comments::AsRoto];
         let options =
-            &Options::default().with_comments(match random.below(2) {
-                0 => Comments::All,
-                _ => Comments::AsRoto,
-            });
+            &any_rule(&mut random).with_comments(comments[random.below(2)]);
         let mut buffers = Buffers::new(random.below(200), 0, 0);
         let before = buffers.clone();
         let store = &mut buffers.store;
@@ -151,9 +162,11 @@ fn foreign_render_states() {
         state.marks_in_use = random.wild();
         state.next_row = random.wild();
         state.width = [0, 80, random.wild()][random.below(3)];
+        state.rule = [0, 1, 2, 3, random.wild()][random.below(5)];
         let stop = [random.wild(), rows][random.below(2)];
+        let options = &any_rule(&mut random);
         let mut buffers = laid.clone();
-        if try_render(&mut buffers, file, &state, stop).is_err() {
+        if buffers.render(file, &state, stop, options).is_err() {
             refused += 1;
             assert_eq!(buffers, laid);
         }
@@ -166,12 +179,13 @@ fn foreign_render_states() {
 fn states_over_their_bounds() {
     let image = tariff_image();
     let file = File::new(SOURCE, &image);
-    let changes: [fn(&mut RenderState); 5] = [
+    let changes: [fn(&mut RenderState); 6] = [
         |state| state.indent = 65,
         |state| state.next_indent = usize::MAX,
         |state| state.column = (1 << 56) + 1,
         |state| state.marks_in_use = 301,
         |state| state.next_row = 1,
+        |state| state.rule = 4,
     ];
     for change in changes {
         let mut state = RenderState::default();
@@ -229,7 +243,8 @@ fn changed_stores() {
             changed.store[at] = random.wild() as u32;
         }
         let mut buffers = changed.clone();
-        match try_render(&mut buffers, file, &fresh, rows) {
+        let options = &any_rule(&mut random);
+        match buffers.render(file, &fresh, rows, options) {
             Ok(_) => assert_eq!(buffers.store, changed.store),
             Err(_) => {
                 refused += 1;

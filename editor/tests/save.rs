@@ -20,7 +20,7 @@ use example::{
     run, save,
 };
 use rrufthim::{Formatter, Options, encode};
-use support::{SOURCE, constants, tariff_image};
+use support::{SOURCE, constants, list, list_tree, tariff_image, towns};
 
 const LINE: &str = "const A: u32 = 1;\n";
 /// A source whose text is `LINE`.
@@ -28,7 +28,7 @@ const WIDE: &str = "\n const A: u32 = 1;";
 /// `WIDE`, and a line that was added to it since.
 const NEWER: &str = "\n const A: u32 = 1;\n// Surcharge agreed\n";
 const USAGE: &str =
-    "usage: save [--force] [--] FRAME TARGET [FRAME TARGET]...";
+    "usage: save [--force] [--unicode V] [--] FRAME TARGET [FRAME TARGET]...";
 
 /// A folder that is empty at first.
 struct Folder(PathBuf);
@@ -320,7 +320,8 @@ fn what_is_not_understood_is_said_once() {
     let target = folder.path("a.roto").display().to_string();
     let (frame, target) = (&frame[..], &target[..]);
     let alone = format!("{frame} has no target");
-    let faults: [(&[&str], &str); 8] = [
+    let edition = "--unicode takes an edition, 15.1 or 16.0, not 80";
+    let faults: [(&[&str], &str); 9] = [
         (&[], "no frame is given"),
         (&["--force"], "no frame is given"),
         (&[frame], &alone),
@@ -329,6 +330,7 @@ fn what_is_not_understood_is_said_once() {
         (&[frame, target, "--quiet"], "--quiet is no option"),
         (&["--check", frame, target], "--check is no option"),
         (&["--width", "80", frame, target], "--width is no option"),
+        (&["--unicode", "80", frame, target], edition),
     ];
     for (words, why) in faults {
         let said = said(words.iter().map(OsString::from));
@@ -346,10 +348,25 @@ fn help_is_an_answer() {
     let said = folder.save(&["--help"], &["a.frame", "a.roto"]);
     assert_eq!((said.status, said.err.len()), (0, 0));
     assert_eq!(said.out[0], USAGE);
-    for option in ["--force", "--help"] {
+    for option in ["--force", "--unicode V", "--help"] {
         let starts =
             |line: &String| line.starts_with(&format!("  {option} "));
         assert!(said.out.iter().any(starts), "{option}");
     }
     assert_eq!(folder.names(), ["a.frame"]);
+}
+
+/// A list of Japan's towns that fits a line, by an edition of Unicode.
+#[test]
+fn an_edition_is_chosen() {
+    let folder = Folder::new("unicode");
+    let source = list(&towns(0));
+    let image = encode(&list_tree(&source), &[]).expect("an image");
+    folder.put("a.frame", frame(&source, &image));
+    let names = ["a.frame", "a.roto"];
+    assert_eq!(folder.save(&["--unicode", "16.0"], &names).status, 0);
+    assert_eq!(folder.text("a.roto").as_deref(), Some(&source[..]));
+    assert_eq!(folder.save(&[], &names).status, 0);
+    let wrapped = folder.text("a.roto").expect("written");
+    assert_eq!(wrapped.lines().count(), 8, "{wrapped}");
 }

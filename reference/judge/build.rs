@@ -1,6 +1,8 @@
 //! Copies fmt.rs with the edits that README.md lists: the greatest value of
 //! `column` is kept, `fmt_parsed` asks for its `max` and for the mode that it
-//! closes in, and a child module sees the private items that the judge drives.
+//! closes in, texts ask for the rule that they are measured by, and a child
+//! module sees the private items that the judge drives. A second copy is as it
+//! was, but for a last function that calls `fmt_parsed`.
 
 use std::{env, fs, path::PathBuf};
 
@@ -11,6 +13,13 @@ const KEPT: &str = "#[cfg(debug_assertions)] \
 /// How many lines of fmt.rs set `column`.
 const SET: usize = 5;
 
+/// Stands behind the last line of the copy that isn't edited.
+const UNEDITED: &str = "
+pub fn format(input: &crate::tree::Input) -> String {
+    fmt_parsed(&input.ast, &input.files, &input.spans, &input.extras)
+}
+";
+
 fn main() {
     let here = PathBuf::from(env::var("CARGO_MANIFEST_DIR").unwrap());
     let out = PathBuf::from(env::var("OUT_DIR").unwrap());
@@ -18,17 +27,46 @@ fn main() {
     let driver = here.join("src/driver/mod.rs");
     println!("cargo::rerun-if-changed={}", original.display());
 
-    let text = fs::read_to_string(&original).expect("fmt.rs is there");
-    let mut text = with_foot(&with_max(&with_greatest(&text)));
+    let plain = fs::read_to_string(&original).expect("fmt.rs is there");
+    let mut text = with_rule(&with_foot(&with_max(&with_greatest(&plain))));
     text.push_str(&format!("#[path = {driver:?}] pub mod driver;\n"));
-    let copy = out.join("fmt.rs");
-    fs::write(&copy, text).expect("the copy can be written");
+    let copies = [("fmt", text), ("unedited", plain + UNEDITED)];
 
-    // `#[path]` takes a literal alone, so the declaration is generated too.
-    let declaration =
-        format!("#[allow(dead_code)] #[path = {copy:?}] mod fmt;\n");
-    fs::write(out.join("declare_fmt.rs"), declaration)
-        .expect("the declaration can be written");
+    // `#[path]` takes a literal alone, so the declarations are generated too.
+    let mut declarations = String::new();
+    for (name, text) in copies {
+        let copy = out.join(format!("{name}.rs"));
+        fs::write(&copy, text).expect("the copy can be written");
+        declarations.push_str(&format!(
+            "#[allow(dead_code)] #[path = {copy:?}] mod {name};\n"
+        ));
+    }
+    fs::write(out.join("declare_fmt.rs"), declarations)
+        .expect("the declarations can be written");
+}
+
+/// What a text measures is asked of the judge, which is handed what the
+/// original has there: where a `Str` is made, and twice for an `Ascii`.
+fn with_rule(text: &str) -> String {
+    let edits = [
+        (
+            "let width = x.width();",
+            "let width = driver::measure(x, x.width());",
+        ),
+        (
+            "Node::Ascii(s) => s.len(),",
+            "Node::Ascii(s) => driver::measure(s, s.len()),",
+        ),
+        (
+            "Node::Ascii(s) => self.text(s, s.len()),",
+            "Node::Ascii(s) => self.text(s, driver::measure(s, s.len())),",
+        ),
+    ];
+    let edit = |text: String, (line, edited): (&str, &str)| {
+        assert_eq!(text.matches(line).count(), 1, "{line}");
+        text.replace(line, edited)
+    };
+    edits.into_iter().fold(text.into(), edit)
 }
 
 /// `max` is a number that the judge sets, 80 unless it does.

@@ -16,8 +16,8 @@ use Rattle.image.proofs.Numbers.{read_numbers}
 use Rattle.rows.specs.Limits.{MAX_ROWS}
 use Rattle.layout_facts.proofs.Limits.{closed_within}
 use Rattle.cut_rule.specs.States.{layout_fresh, render_fresh}
-use Rattle.cut_rule.specs.Tests.{mode_tests, width_tests}
-use Rattle.cut_rule.specs.Parts.{width_line}
+use Rattle.cut_rule.specs.Tests.{mode_tests, width_tests, chosen_tests}
+use Rattle.cut_rule.specs.Parts.{rule_line, width_line}
 use Rattle.whole_run.specs.Parts.{keeps_waiting}
 use Rattle.whole_run.specs.File.{mode_line, file_rows, file_marks, file_before_marks, file_marks_line, file_before_text}
 use Rattle.whole_run.specs.FileLimits.{FILE_TEXT}
@@ -78,6 +78,8 @@ module _ (s b : List ℕ) where
 
     early_lines : Fines (first (file_before_text s b c file_rows file_marks))
     early_lines =
+        fine_or (rule_line c.rule) _ (fine_if (any (chosen_tests c.rule)) 20 0 (λ e. omega arith) (omega arith))
+        (λ r.
         fine_or (read_refusal (read_all s b)) _ read_fine
         (λ h.
         fine_or (mode_line c) _ (fine_if (any (mode_tests (layout_choice c) layout_fresh)) 12 0 (λ e. omega arith) (omega arith))
@@ -89,7 +91,7 @@ module _ (s b : List ℕ) where
         (λ k.
         fine_or (refuse_if (ltb file_marks (marks_due s b c)) 9 (marks_due s b c)) None
         (fine_if (ltb file_marks (marks_due s b c)) 9 (marks_due s b c) (λ e. omega arith) (let l = marks_few s b c h in omega arith))
-        (λ l. fine_none)))))
+        (λ l. fine_none))))))
 
 pub early_fine : (c : FileChoice) (x : Save) → Fines (early c x)
 early_fine c x = early_lines x.source x.image c

@@ -1,6 +1,6 @@
 -- The marks that a file needs are no more than the numbers that its layout gives.
 -- Assumes nothing.
-use mathlib.Core.Path.{◌≡◌, refl, sym}
+use mathlib.Core.Path.{◌≡◌, refl, sym, ap, ◌∙◌}
 use mathlib.Core.Bool.{false, ◌||◌}
 use Rattle.std.specs.Prelude.{None}
 use mathlib.Core.List.{List, [], ◌++◌}
@@ -28,7 +28,8 @@ use Rattle.comments.specs.Listed.{given}
 use Rattle.layout_facts.proofs.Limits.{closed_within}
 use Rattle.layout_facts.proofs.Numbers.{whole_below}
 use Rattle.whole_run.specs.Parts.{accepted_tree, keeps_waiting}
-use Rattle.whole_run.specs.Built.{FileChoice, built, marks_due}
+use Rattle.whole_run.specs.Built.{FileChoice, built, laid, marks_due}
+use Rattle.whole_run.proofs.Laid.{laid_size, laid_names}
 use Rattle.whole_run.proofs.Limits.{stood}
 use Rattle.whole_run.proofs.Marks.{marks_add}
 
@@ -136,10 +137,11 @@ module _ (s : List ℕ) where
 
 pub marks_few : (s b : List ℕ) (c : FileChoice) → read_refusal (read_all s b) ≡ None → marks_due s b c ≤ MAX_NUMBER
 marks_few s b c h =
-    let l = rows (built s b c).nodes 0 in
+    let l = rows (laid s b c) 0 in
     let keeps = keeps_waiting c.mode in
     let few =
-    nodes_few l (built s b c).taken (built s b c).nodes 0 0 (holds_part l 0 l (take_all (length l) l (omega arith)))
-    (λ x g. whole_below (given s b) (accepted_tree b (read_all s b)) keeps x g)
+    nodes_few l (built s b c).taken (laid s b c) 0 0 (holds_part l 0 l (take_all (length l) l (omega arith)))
+    (λ x g. laid_names c.rule s b x (built s b c).nodes ∙ whole_below (given s b) (accepted_tree b (read_all s b)) keeps x g)
     in
-    omega (arith, (closed_within (stood s b h).stood keeps).numbers)
+    let size = laid_size c.rule s b (built s b c).nodes in
+    omega (arith, ap (λ (n : ℕ). marks_needed n l 0) size, (closed_within (stood s b h).stood keeps).numbers)

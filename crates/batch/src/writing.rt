@@ -20,7 +20,7 @@ pub(crate) struct Row {
 }
 
 // Writes the text of a frame's file, where it has room; the answer is the file's row.
-#[tactic(auto, using(crate::proofs::Steps::saved_text, crate::proofs::Steps::saved_refused))]
+#[tactic(auto, using(crate::proofs::Steps::saved_text))]
 fn write_text(frame: &Frame, out: &mut [u8], choice: FileChoice) -> Row
     requires { length (text_of (to_choice choice) (saved frame.now)) ≤ length out.old }
     ensures { Saved (to_choice choice) (saved frame.now) out.old result out.new }

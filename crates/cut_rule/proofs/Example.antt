@@ -21,8 +21,8 @@ use Rattle.cut_rule.specs.Plain.{at_first, due, plain, AllReadLaid}
 use Rattle.rows.specs.Node.{Text}
 use Rattle.cut_rule.specs.CutRule.{comments_in, CutRule}
 use Rattle.cut_rule.specs.States.{OLD_MODE, NEW_MODE, Cursor, LayoutState, layout_fresh}
-use Rattle.cut_rule.specs.Limits.{REFERENCE_WIDTH}
-use Rattle.cut_rule.specs.Tests.{begun_tests, pen_tests, mark_tests, width_tests}
+use Rattle.cut_rule.specs.Limits.{REFERENCE_WIDTH, MIN_RULE}
+use Rattle.cut_rule.specs.Tests.{begun_tests, pen_tests, mark_tests, width_tests, rule_tests}
 use Rattle.cut_rule.specs.Parts.{Piece, RuleParts, rules}
 use Rattle.cut_rule.specs.PartLaws.{Counts, LayoutPartLaws, PlacesNext, CommentPartLaws, RenderPartLaws}
 use Rattle.cut_rule.proofs.Document.{parts_cut}
@@ -145,14 +145,20 @@ example : (store₀ marks₀ : List ℕ) (calls : List (Call (rules small))) →
 example = parts_cut small listed layout_parts render_parts comment_parts
 
 -- ---- lists of calls
+abbrev lay_by : ℕ → ℕ → ℕ → Bool → Call (rules small)
+lay_by rule mode n b = layout_call (record { stop = n; close = b; choice = record { mode = mode; rule = rule } })
+
 abbrev lay_in : ℕ → ℕ → Bool → Call (rules small)
-lay_in mode n b = layout_call (record { stop = n; close = b; choice = record { mode = mode } })
+lay_in mode n b = lay_by MIN_RULE mode n b
 
 abbrev lay_to : ℕ → Bool → Call (rules small)
 lay_to n b = lay_in OLD_MODE n b
 
+abbrev render_by : ℕ → ℕ → ℕ → ℕ → Call (rules small)
+render_by rule width n room = render_call (record { to = record { stop = n; choice = record { width = width; rule = rule } }; room = room })
+
 abbrev render_at : ℕ → ℕ → ℕ → Call (rules small)
-render_at width n room = render_call (record { to = record { stop = n; choice = record { width = width } }; room = room })
+render_at width n room = render_by MIN_RULE width n room
 
 abbrev render_to : ℕ → ℕ → Call (rules small)
 render_to n room = render_at REFERENCE_WIDTH n room
@@ -211,12 +217,23 @@ tried_modes : as_numbers (answers (rules small) (start (rules small) nines fives
     ≡ (12 ∷ 0 ∷ []) ∷ (100 ∷ 1 ∷ []) ∷ (12 ∷ 0 ∷ []) ∷ (100 ∷ 0 ∷ []) ∷ []
 tried_modes = refl
 
--- a state that has not begun carries no mode
-abbrev not_begun : ℕ → LayoutState
-not_begun mode = record { begun = false; closed = false; declaration = 0; cursor = layout_fresh.cursor; mode = mode }
+-- a state that has not begun carries no mode and no rule
+abbrev not_begun : ℕ → ℕ → LayoutState
+not_begun mode rule = record { begun = false; closed = false; declaration = 0; cursor = layout_fresh.cursor; mode = mode; rule = rule }
 
-tried_fresh : any (begun_tests (not_begun 0)) ∷ any (begun_tests (not_begun NEW_MODE)) ∷ [] ≡ false ∷ true ∷ []
+tried_fresh : any (begun_tests (not_begun 0 0)) ∷ any (begun_tests (not_begun NEW_MODE 0)) ∷ any (begun_tests (not_begun 0 MIN_RULE)) ∷ []
+    ≡ false ∷ true ∷ true ∷ []
 tried_fresh = refl
+
+-- 20: none, and one past the last; a rule that differs from the carried one is 12, of either kind of call, each held to its own
+tried_rules : as_numbers (answers (rules small) (start (rules small) nines fives)
+    (lay_by 0 0 1 false ∷ lay_by 4 3 9 true ∷ lay_by 2 0 1 false ∷ lay_by 3 0 2 false ∷ render_by 0 39 9 9 ∷ render_by 3 80 1 9 ∷ render_by 2 39 1 9 ∷ []))
+    ≡ (20 ∷ 0 ∷ []) ∷ (20 ∷ 0 ∷ []) ∷ (100 ∷ 1 ∷ []) ∷ (12 ∷ 0 ∷ []) ∷ (20 ∷ 0 ∷ []) ∷ (200 ∷ 9 ∷ []) ∷ (12 ∷ 0 ∷ []) ∷ []
+tried_rules = refl
+
+-- none carried yet, the carried one, another, and one that no call could have chosen
+tried_carried : any (rule_tests 2 0) ∷ any (rule_tests 2 2) ∷ any (rule_tests 2 3) ∷ any (rule_tests 2 7) ∷ [] ≡ false ∷ false ∷ true ∷ true ∷ []
+tried_carried = refl
 
 -- 12's limits of a rendering state: each at its limit, and one past it; marks in use that are 0 and 1, a mark of 2, more marks than there are
 abbrev pen_at : ℕ → ℕ → ℕ → Bool

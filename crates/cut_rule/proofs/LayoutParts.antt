@@ -1,7 +1,7 @@
 -- Layout in one go is layout piece by piece: the shebang, the declarations in order, the final `Line`. So layout to a stop and then on is layout
 -- to the later stop, and the next row counts the rows.
 -- Assumes nothing but the laws of the parts.
-use mathlib.Core.Path.{◌≡◌, refl, sym, ap, ◌∙◌}
+use mathlib.Core.Path.{◌≡◌, refl, sym, ap, ap₂, ◌∙◌}
 use mathlib.Core.Bool.{Bool, true, false}
 use Rattle.std.specs.Prelude.{None}
 use mathlib.Core.List.{List, ◌++◌, append-nil, append_assoc}
@@ -16,7 +16,7 @@ use Rattle.refusals.specs.Refusals.{first}
 use Rattle.cut_rule.specs.States.{LayoutChoice, Cursor, LayoutState, layout_fresh}
 use Rattle.cut_rule.specs.Parts.{Piece, RuleParts, still, and_then, begin, several, end, call_piece, laid_of, layout_table, rules}
 use Rattle.cut_rule.specs.PartLaws.{Counts, LayoutPartLaws}
-use Rattle.cut_rule.proofs.Table.{layout_told}
+use Rattle.cut_rule.proofs.Table.{LegalRule, same_as_carried, layout_told}
 
 pub counts_then : (c : Cursor) (p : Piece) (g : Cursor → Piece) → Counts c p → Counts p.cursor (g p.cursor) → Counts c (and_then p g)
 counts_then c p g u v = record { row = omega (arith, u.row, v.row, length-append p.rows (g p.cursor).rows) }
@@ -58,12 +58,12 @@ module _ (P : RuleParts) where
   from_fresh q = ap (λ (n : ℕ). end P q.choice q.close (up_to q.choice n)) (sub-zero q.stop)
 
   -- where a call to p, not closing, left layout
-  abbrev stopped_at : LayoutChoice → ℕ → ℕ → LayoutState
-  stopped_at k n mode = record { begun = true; closed = false; declaration = n; cursor = (up_to k n).cursor; mode = mode }
+  abbrev stopped_at : LayoutChoice → ℕ → LayoutChoice → LayoutState
+  stopped_at k n held = record { begun = true; closed = false; declaration = n; cursor = (up_to k n).cursor; mode = held.mode; rule = held.rule }
 
-  piece_on : (n mode : ℕ) (q : LayoutArgs LayoutChoice) → n ≤ q.stop
-      → call_piece P layout_fresh q ≡ glue (up_to q.choice n) (call_piece P (stopped_at q.choice n mode) q)
-  piece_on n mode q h =
+  piece_on : (n : ℕ) (held : LayoutChoice) (q : LayoutArgs LayoutChoice) → n ≤ q.stop
+      → call_piece P layout_fresh q ≡ glue (up_to q.choice n) (call_piece P (stopped_at q.choice n held) q)
+  piece_on n held q h =
       let k = q.choice in
       let x = up_to k n in
       let m : (q.stop - n) + n ≡ q.stop = omega arith in
@@ -105,31 +105,35 @@ module _ (P : RuleParts) where
 
   module _ (L : LayoutPartLaws P) where
     pub record FitsParts (q : LayoutArgs LayoutChoice) : Type 0 where
+      pub legal : LegalRule q.choice.rule
       pub image : P.layout_image ≡ None
       pub to : q.stop ≤ P.declarations
       pub closes_at_end : q.close ≡ true → q.stop ≡ P.declarations
 
     goes_on : (p q : LayoutArgs LayoutChoice) → LayoutAfter p q → laid_of P layout_fresh q ≡ then_laid (laid_of P layout_fresh p) (λ s. laid_of P s q)
     goes_on p q a =
-        ap laid_as (piece_on p.stop p.choice.mode q a.not_past)
+        ap laid_as (piece_on p.stop p.choice q a.not_past)
         ∙ ap parted (ap (λ (k : LayoutChoice). up_to k p.stop) (sym a.same) ∙ sym (stopped p a.not_closed))
       where
         laid_as : Piece → LayoutResult LayoutState
         laid_as y = record {
-          state = record { begun = true; closed = q.close; declaration = q.stop; cursor = y.cursor; mode = q.choice.mode };
+          state = record { begun = true; closed = q.close; declaration = q.stop; cursor = y.cursor; mode = q.choice.mode; rule = q.choice.rule };
           rows = y.rows;
           left = P.comments - y.cursor.placed;
         }
 
         parted : Piece → LayoutResult LayoutState
         parted x =
+            let k = p.choice in
             laid_as
-            (glue x (call_piece P (record { begun = true; closed = p.close; declaration = p.stop; cursor = x.cursor; mode = p.choice.mode }) q))
+            (glue x
+            (call_piece P (record { begun = true; closed = p.close; declaration = p.stop; cursor = x.cursor; mode = k.mode; rule = k.rule }) q))
 
     pub layout_laws : LayoutLaws (rules P)
     layout_laws = record {
       Fits = FitsParts;
       accepted_fits = λ q s store e. record {
+        legal = (layout_told P q s store e).legal;
         image = (layout_told P q s store e).image;
         to = (layout_told P q s store e).fits.stop.to;
         closes_at_end = (layout_told P q s store e).fits.stop.closes_at_end;
@@ -138,7 +142,9 @@ module _ (P : RuleParts) where
         not_closed = (layout_told P q (laid_of P layout_fresh p).state store e).fits.stop.not_closed;
         not_past = (layout_told P q (laid_of P layout_fresh p).state store e).fits.stop.from;
         same =
-            ap (λ (m : ℕ). record { mode = m }) (sym ((layout_told P q (laid_of P layout_fresh p).state store e).fits.mode.same refl));
+            let t = (layout_told P q (laid_of P layout_fresh p).state store e).fits in
+            ap₂ (λ (m r : ℕ). record { mode = m; rule = r }) (sym (t.mode.same refl))
+            (same_as_carried q.choice.rule p.choice.rule k.legal.least t.rule);
       };
       fresh_row = refl;
       due_row = λ p k. omega (arith, (counts_piece L k.image layout_fresh p (omega arith) k.to).row);

@@ -2,36 +2,21 @@
 -- rows before each call: the same, since rows neither read nor change marks past their numbers (`draw_past`).
 -- Assumes nothing but the laws of the parts.
 use mathlib.Core.Path.{◌≡◌, refl, sym, ap, ap₂, ◌∙◌}
-use mathlib.Core.Bool.{Bool, true, false, not, ◌&&◌}
 use Rattle.std.specs.Prelude.{None}
 use mathlib.Core.List.{List, [], ◌++◌}
 use Prim.Native.Nat.{ℕ, ◌+◌, ◌-◌, max}
 use native.Mathlib.Omega.{arith}
-use borrow.Author.Tests.{eqb-true, ne_eqb}
-use lib.Dec.{eqb}
 use lib.ListN.{length, take, replicate, length-append, length-take, length-replicate, replicate-append-replicate}
 use Rattle.cut_rule.specs.Rules.{RenderTo, RenderResult}
 use Rattle.cut_rule.specs.Laws.{RenderAfter, SameBefore, then_rendered, RenderLaws, RoomLaws}
 use Rattle.cut_rule.specs.States.{RenderChoice, RenderState, render_fresh}
 use Rattle.cut_rule.specs.Parts.{Drawn, RuleParts, with_cleared, drawn_of, rendered_of, rules}
 use Rattle.cut_rule.specs.PartLaws.{LayoutPartLaws, with_past, then_drawn, RenderPartLaws}
-use Rattle.laws.proofs.Booleans.{true_false}
-use Rattle.cut_rule.proofs.Table.{LegalWidth, WidthFits, render_told}
+use Rattle.cut_rule.proofs.Table.{LegalWidth, LegalRule, same_as_carried, render_told}
 use Rattle.cut_rule.proofs.LayoutParts.{rows_fit}
 
 replicate_split : (n a b : ℕ) → n ≡ a + b → replicate {A = ℕ} n 0 ≡ replicate a 0 ++ replicate b 0
 replicate_split n a b e = ap (λ (k : ℕ). replicate {A = ℕ} k 0) e ∙ sym (replicate-append-replicate a b 0)
-
--- A carried width that a call could choose is not 0, so that a width that 15 lets pass is the same.
-carried_same : (carried width : ℕ) → LegalWidth carried → WidthFits width carried → carried ≡ width
-carried_same carried width h f =
-    let chosen : eqb carried 0 ≡ false = ne_eqb carried 0 (λ e. omega (arith, h.least)) in
-    eqb-true carried width (same (eqb carried 0) (eqb carried width) chosen f.same)
-  where
-    same : (x y : Bool) → x ≡ false → (not x && not y) ≡ false → y ≡ true
-    same true y e g = true_false e
-    same false true e g = refl
-    same false false e g = true_false g
 
 module _ (P : RuleParts) (D : RenderPartLaws P) where
   length_cleared : (marks : List ℕ) (n : ℕ) → length (with_cleared P marks n) ≡ length marks + (n - length marks)
@@ -45,7 +30,7 @@ module _ (P : RuleParts) (D : RenderPartLaws P) where
 
   -- what a call gives, by what is drawn and the marks then in use
   abbrev given : RenderTo RenderChoice → Drawn → ℕ → RenderResult RenderState
-  given q y used = record { state = record { pen = y.pen; in_use = used; row = q.stop; width = q.choice.width }; marks = y.marks; text = y.text }
+  given q y used = record { state = record { pen = y.pen; in_use = used; row = q.stop; width = q.choice.width; rule = q.choice.rule }; marks = y.marks; text = y.text }
 
   rendering_local : (s : RenderState) (q : RenderTo RenderChoice) (marks store other : List ℕ) → SameBefore q.stop store other
       → rendered_of P s q marks store ≡ rendered_of P s q marks other
@@ -108,33 +93,38 @@ module _ (P : RuleParts) (D : RenderPartLaws P) where
         let u : max 0 all ≡ max (max 0 before) more = omega (arith, both) in
         ap₂ (λ (y : Drawn) (k : ℕ). given q y k) all_drawn u
 
-  -- a call can choose the width, and the rows before row n are right
+  -- a call can choose width and rule, and the rows before row n are right
   pub record Whole (c : RenderChoice) (rows : List ℕ) (n : ℕ) : Type 0 where
     pub legal : LegalWidth c.width
+    pub rule : LegalRule c.rule
     pub right : P.wrong_row c rows 0 n ≡ None
 
   pub render_laws : RenderLaws (rules P)
   render_laws = record {
     WholeRows = Whole;
     accepted_none =
-        λ q s store marks e. record { legal = (render_told P q s store marks e).checked.width.legal; right = D.none_wrong q.to.choice store };
+        λ q s store marks e.
+        let t = (render_told P q s store marks e).checked in
+        record { legal = t.width.legal; rule = t.legal; right = D.none_wrong q.to.choice store };
     accepted_whole = λ q s store marks e w. record {
       legal = w.legal;
+      rule = w.rule;
       right =
           D.right_join q.to.choice store s.row q.to.stop (render_told P q s store marks e).checked.fits.row.not_past w.right
           (render_told P q s store marks e).checked.right;
     };
     accepted_not_past = λ q s store marks e. (render_told P q s store marks e).checked.fits.row.not_past;
     accepted_same = λ p rows q store marks w e.
-        ap (λ (x : ℕ). record { width = x })
-        (carried_same p.choice.width q.to.choice.width w.legal
-        (render_told P q (rendered_of P render_fresh p [] rows).state store marks e).checked.width);
+        let t = (render_told P q (rendered_of P render_fresh p [] rows).state store marks e).checked in
+        ap₂ (λ (x y : ℕ). record { width = x; rule = y })
+        (same_as_carried q.to.choice.width p.choice.width (omega (arith, w.legal.least)) t.width.same)
+        (same_as_carried q.to.choice.rule p.choice.rule w.rule.least t.fits.rule);
     fresh_row = refl;
     due_row = λ p rows w. refl;
     fresh_use = refl;
     due_use = λ p rows w. omega (arith, drawn_marks render_fresh p [] rows);
     grows = λ s p marks rows. omega (arith, drawn_marks s p marks rows);
-    whole_local = λ c rows others n e w. record { legal = w.legal; right = D.right_local c rows others n e w.right };
+    whole_local = λ c rows others n e w. record { legal = w.legal; rule = w.rule; right = D.right_local c rows others n e w.right };
     render_local = λ s p marks rows others e. rendering_local s p marks rows others e;
     goes_on = λ p q rows a w v. joined p q rows a w.right v.right;
   }

@@ -5,26 +5,52 @@ use mathlib.Core.Bool.{Bool, true, false, not, ◌&&◌, ◌||◌}
 use Rattle.std.specs.Prelude.{None}
 use mathlib.Core.List.{List, [], ◌∷◌, ◌++◌}
 use Prim.Native.Nat.{ℕ, ◌≤◌}
-use borrow.Author.Tests.{ltb-false, eqb-true, not-false}
+use borrow.Author.Tests.{ltb-false, eqb-true, ne_eqb, not-false}
+use native.Mathlib.Omega.{arith}
 use lib.Dec.{ltb, eqb}
 use lib.ListN.{length, take}
-use Rattle.laws.proofs.Booleans.{or_first, or_rest, false_true}
+use Rattle.laws.proofs.Booleans.{or_first, or_rest, false_true, true_false}
 use Rattle.rows.specs.Limits.{MAX_ROWS, MAX_NUMBER}
 use Rattle.renderer_rules.specs.Limits.{MAX_INDENT, MAX_COLUMN}
 use Rattle.refusals.specs.Refusals.{first, refuse_if, refuse_at, any}
 use Rattle.refusals.proofs.Groups.{none_left, none_right, passes_left, passes_right, passes_line, passes_others, not_if, not_at}
-use Rattle.cut_rule.specs.Limits.{MIN_WIDTH, MAX_WIDTH}
+use Rattle.cut_rule.specs.Limits.{MIN_WIDTH, MAX_WIDTH, MIN_RULE, MAX_RULE}
 use Rattle.cut_rule.specs.Rules.{LayoutArgs, RenderArgs}
 use Rattle.renderer_rules.specs.declared.Pen.{Pen}
 use Rattle.cut_rule.specs.States.{LayoutChoice, RenderChoice, LayoutState, RenderState, NEW_MODE}
 use Rattle.cut_rule.specs.Tests.{rows_in, odd_mark, places_tests, limit_tests, begun_tests, stop_tests, mode_tests}
-use Rattle.cut_rule.specs.Tests.{layout_tests_in, row_tests, pen_tests, mark_tests, render_tests, width_tests}
-use Rattle.cut_rule.specs.Parts.{RuleParts, layout_tests, rows_needed, before_rows, rows_line, layout_table, width_line}
+use Rattle.cut_rule.specs.Tests.{layout_tests_in, row_tests, pen_tests, mark_tests, render_tests, width_tests, differs, rule_tests, chosen_tests}
+use Rattle.cut_rule.specs.Parts.{RuleParts, layout_tests, rows_needed, before_rows, rows_line, layout_table, rule_line, width_line}
 use Rattle.cut_rule.specs.Parts.{marks_for, before_marks, marks_line, before_text, text_line, render_table}
 
 -- no test of a list holds, and the first is one of two numbers
 first_within : (a b : ℕ) (rest : Bool) → (ltb a b || rest) ≡ false → b ≤ a
 first_within a b rest e = ltb-false a b (or_first (ltb a b) rest e)
+
+-- ---- rules of width
+-- a rule that a caller may choose
+pub record LegalRule (rule : ℕ) : Type 0 where
+  pub least : MIN_RULE ≤ rule
+  pub most : rule ≤ MAX_RULE
+
+rule_legal : (rule : ℕ) → any (chosen_tests rule) ≡ false → LegalRule rule
+rule_legal rule e = record {
+  least = first_within rule MIN_RULE _ e;
+  most = first_within MAX_RULE rule _ (or_rest (ltb rule MIN_RULE) _ e);
+}
+
+rule_same : (rule carried : ℕ) → any (rule_tests rule carried) ≡ false → differs rule carried ≡ false
+rule_same rule carried e = or_first (differs rule carried) _ e
+
+-- A carried choice that a call could make is not 0, so that one that doesn't differ from it is the same.
+pub same_as_carried : (chosen carried : ℕ) → 1 ≤ carried → differs chosen carried ≡ false → carried ≡ chosen
+same_as_carried chosen carried h e =
+    eqb-true carried chosen (same (eqb carried 0) (eqb carried chosen) (ne_eqb carried 0 (λ z. omega (arith, z))) e)
+  where
+    same : (x y : Bool) → x ≡ false → (not x && not y) ≡ false → y ≡ true
+    same true y e g = true_false e
+    same false true e g = refl
+    same false false e g = true_false g
 
 -- ---- 12 of layout, group by group
 pub record PlacesFit (declarations comments size rows : ℕ) (s : LayoutState) : Type 0 where
@@ -106,6 +132,7 @@ pub record LayoutFits (declarations comments size rows : ℕ) (q : LayoutArgs La
   pub limits : LimitsFit s
   pub stop : StopFits declarations q s
   pub mode : ModeFits q.choice s
+  pub rule : differs q.choice.rule s.rule ≡ false
 
 pub layout_fits : (declarations comments size rows : ℕ) (q : LayoutArgs LayoutChoice) (s : LayoutState)
     → any (layout_tests_in declarations comments size rows q s) ≡ false → LayoutFits declarations comments size rows q s
@@ -113,14 +140,18 @@ layout_fits declarations comments size rows q s e =
     let places = places_tests declarations comments size rows s in
     let stop = stop_tests declarations q s in
     let mode = mode_tests q.choice s in
-    let e2 = none_right places (limit_tests s ++ (begun_tests s ++ (stop ++ mode))) e in
-    let e3 = none_right (limit_tests s) (begun_tests s ++ (stop ++ mode)) e2 in
-    let e4 = none_right (begun_tests s) (stop ++ mode) e3 in
+    let rule = rule_tests q.choice.rule s.rule in
+    let chosen = mode ++ rule in
+    let e2 = none_right places (limit_tests s ++ (begun_tests s ++ (stop ++ chosen))) e in
+    let e3 = none_right (limit_tests s) (begun_tests s ++ (stop ++ chosen)) e2 in
+    let e4 = none_right (begun_tests s) (stop ++ chosen) e3 in
+    let e5 = none_right stop chosen e4 in
     record {
-      places = places_fit declarations comments size rows s (none_left places (limit_tests s ++ (begun_tests s ++ (stop ++ mode))) e);
-      limits = limits_fit s (none_left (limit_tests s) (begun_tests s ++ (stop ++ mode)) e2);
-      stop = stop_fits declarations q s (none_left stop mode e4);
-      mode = mode_fits q.choice s (none_right stop mode e4);
+      places = places_fit declarations comments size rows s (none_left places (limit_tests s ++ (begun_tests s ++ (stop ++ chosen))) e);
+      limits = limits_fit s (none_left (limit_tests s) (begun_tests s ++ (stop ++ chosen)) e2);
+      stop = stop_fits declarations q s (none_left stop chosen e4);
+      mode = mode_fits q.choice s (none_left mode rule e5);
+      rule = rule_same q.choice.rule s.rule (none_right mode rule e5);
     }
 
 -- ---- 12 of rendering, group by group
@@ -163,6 +194,7 @@ pub record RenderFits (q : RenderArgs RenderChoice) (s : RenderState) (store mar
   pub row : RowFits (rows_in store) q.to.stop s.row
   pub pen : PenFits s.pen
   pub used : MarksFit marks s.in_use
+  pub rule : differs q.to.choice.rule s.rule ≡ false
 
 pub render_fits : (q : RenderArgs RenderChoice) (s : RenderState) (store marks : List ℕ) → any (render_tests q s store marks) ≡ false
     → RenderFits q s store marks
@@ -170,11 +202,14 @@ render_fits q s store marks e =
     let row = row_tests (rows_in store) q.to.stop s.row in
     let pen = pen_tests s.pen in
     let mark = mark_tests marks s.in_use in
-    let e2 = none_right row (pen ++ mark) e in
+    let rule = rule_tests q.to.choice.rule s.rule in
+    let e2 = none_right row (pen ++ (mark ++ rule)) e in
+    let e3 = none_right pen (mark ++ rule) e2 in
     record {
-      row = row_fits (rows_in store) q.to.stop s.row (none_left row (pen ++ mark) e);
-      pen = pen_fits s.pen (none_left pen mark e2);
-      used = marks_fit marks s.in_use (none_right pen mark e2);
+      row = row_fits (rows_in store) q.to.stop s.row (none_left row (pen ++ (mark ++ rule)) e);
+      pen = pen_fits s.pen (none_left pen (mark ++ rule) e2);
+      used = marks_fit marks s.in_use (none_left mark rule e3);
+      rule = rule_same q.to.choice.rule s.rule (none_right mark rule e3);
     }
 
 -- ---- 15
@@ -185,7 +220,7 @@ pub record LegalWidth (width : ℕ) : Type 0 where
 
 pub record WidthFits (width carried : ℕ) : Type 0 where
   pub legal : LegalWidth width
-  pub same : (not (eqb carried 0) && not (eqb carried width)) ≡ false
+  pub same : differs width carried ≡ false
 
 pub width_fits : (width carried : ℕ) → any (width_tests width carried) ≡ false → WidthFits width carried
 width_fits width carried e =
@@ -193,12 +228,13 @@ width_fits width carried e =
     let e3 = or_rest (ltb MAX_WIDTH width) _ e2 in
     record {
       legal = record { least = first_within width MIN_WIDTH _ e; most = first_within MAX_WIDTH width _ e2 };
-      same = or_first (not (eqb carried 0) && not (eqb carried width)) _ e3;
+      same = or_first (differs width carried) _ e3;
     }
 
 -- ---- the lines
 module _ (P : RuleParts) where
   pub record LayoutTold (q : LayoutArgs LayoutChoice) (s : LayoutState) (store : List ℕ) : Type 0 where
+    pub legal : LegalRule q.choice.rule
     pub image : P.layout_image ≡ None
     pub fits : LayoutFits P.declarations P.comments P.source_size (rows_in store) q s
     pub room : rows_needed P q s ≤ rows_in store
@@ -208,20 +244,26 @@ module _ (P : RuleParts) where
   layout_told q s store e =
       let needs = rows_needed P q s in
       let tests = any (layout_tests P q s store) in
-      let line-12 = refuse_if tests 12 0 in
-      let line-8 = refuse_if (ltb (rows_in store) needs) 8 needs in
+      let line_20 = rule_line q.choice.rule in
+      let line_12 = refuse_if tests 12 0 in
+      let line_8 = refuse_if (ltb (rows_in store) needs) 8 needs in
       let before = passes_left (before_rows P q s store) (rows_line P q s store) e in
       let behind = passes_right (before_rows P q s store) (rows_line P q s store) e in
+      let after_20 = passes_others line_20 (P.layout_image ∷ line_12 ∷ []) before in
       record {
-        image = passes_line P.layout_image (line-12 ∷ []) before;
+        legal =
+            rule_legal q.choice.rule
+            (not_if (any (chosen_tests q.choice.rule)) 20 0 (passes_line line_20 (P.layout_image ∷ line_12 ∷ []) before));
+        image = passes_line P.layout_image (line_12 ∷ []) after_20;
         fits =
             layout_fits P.declarations P.comments P.source_size (rows_in store) q s
-            (not_if tests 12 0 (passes_line line-12 [] (passes_others P.layout_image (line-12 ∷ []) before)));
-        room = ltb-false (rows_in store) needs (not_if (ltb (rows_in store) needs) 8 needs (passes_line line-8 [] behind));
+            (not_if tests 12 0 (passes_line line_12 [] (passes_others P.layout_image (line_12 ∷ []) after_20)));
+        room = ltb-false (rows_in store) needs (not_if (ltb (rows_in store) needs) 8 needs (passes_line line_8 [] behind));
       }
 
   -- what the lines before 9 tell
   pub record RenderChecked (q : RenderArgs RenderChoice) (s : RenderState) (store marks : List ℕ) : Type 0 where
+    pub legal : LegalRule q.to.choice.rule
     pub right : P.wrong_row q.to.choice store s.row q.to.stop ≡ None
     pub fits : RenderFits q s store marks
     pub width : WidthFits q.to.choice.width s.width
@@ -232,16 +274,19 @@ module _ (P : RuleParts) where
       let c = q.to.choice in
       let found = P.wrong_row c store s.row q.to.stop in
       let tests = any (render_tests q s store marks) in
-      let line-11 = refuse_at found 11 in
-      let line-12 = refuse_if tests 12 0 in
-      let line-15 = width_line c s in
-      let behind = passes_others (P.render_image_of c) (line-11 ∷ line-12 ∷ line-15 ∷ []) e in
-      let after-11 = passes_others line-11 (line-12 ∷ line-15 ∷ []) behind in
-      let after-12 = passes_others line-12 (line-15 ∷ []) after-11 in
+      let line_20 = rule_line c.rule in
+      let line_11 = refuse_at found 11 in
+      let line_12 = refuse_if tests 12 0 in
+      let line_15 = width_line c s in
+      let others = P.render_image_of c ∷ line_11 ∷ line_12 ∷ line_15 ∷ [] in
+      let behind = passes_others (P.render_image_of c) (line_11 ∷ line_12 ∷ line_15 ∷ []) (passes_others line_20 others e) in
+      let after_11 = passes_others line_11 (line_12 ∷ line_15 ∷ []) behind in
+      let after_12 = passes_others line_12 (line_15 ∷ []) after_11 in
       record {
-        right = not_at found 11 (passes_line line-11 (line-12 ∷ line-15 ∷ []) behind);
-        fits = render_fits q s store marks (not_if tests 12 0 (passes_line line-12 (line-15 ∷ []) after-11));
-        width = width_fits c.width s.width (not_if (any (width_tests c.width s.width)) 15 0 (passes_line line-15 [] after-12));
+        legal = rule_legal c.rule (not_if (any (chosen_tests c.rule)) 20 0 (passes_line line_20 others e));
+        right = not_at found 11 (passes_line line_11 (line_12 ∷ line_15 ∷ []) behind);
+        fits = render_fits q s store marks (not_if tests 12 0 (passes_line line_12 (line_15 ∷ []) after_11));
+        width = width_fits c.width s.width (not_if (any (width_tests c.width s.width)) 15 0 (passes_line line_15 [] after_12));
       }
 
   -- and 9

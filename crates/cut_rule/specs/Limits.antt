@@ -1,4 +1,4 @@
--- Request 3: the widths that a caller may choose, and the one that is the reference, the `max` of `Renderer` in the Rust.
+-- What a caller may choose: widths, and the one that is the reference, the `max` of `Renderer` in the Rust (request 3); rules of width (request 8).
 use Rattle.std.specs.Prelude.{ℕ}
 
 abbrev pub MIN_WIDTH : ℕ
@@ -9,3 +9,10 @@ MAX_WIDTH = 200
 
 abbrev pub REFERENCE_WIDTH : ℕ
 REFERENCE_WIDTH = 80
+
+-- "1 supplied, 2 for 15.1, 3 for 16.0"
+abbrev pub MIN_RULE : ℕ
+MIN_RULE = 1
+
+abbrev pub MAX_RULE : ℕ
+MAX_RULE = 3

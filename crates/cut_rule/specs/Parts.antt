@@ -5,7 +5,7 @@ use Rattle.refusals.specs.Refusals.{Refusal, refuse_if, refuse_at, any, first}
 use Rattle.cut_rule.specs.Rules.{LayoutArgs, RenderTo, RenderArgs, LayoutResult, RenderResult, Rules}
 use Rattle.renderer_rules.specs.declared.Pen.{Pen}
 use Rattle.cut_rule.specs.States.{LayoutChoice, RenderChoice, Cursor, LayoutState, RenderState, layout_fresh, render_fresh}
-use Rattle.cut_rule.specs.Tests.{rows_in, layout_tests_in, render_tests, width_tests}
+use Rattle.cut_rule.specs.Tests.{rows_in, layout_tests_in, render_tests, width_tests, chosen_tests}
 
 -- what a piece of layout gives: the cursor behind it, and the rows that it adds, nine numbers a row
 pub record Piece : Type 0 where
@@ -45,6 +45,10 @@ still c = record { cursor = c; rows = [] }
 abbrev pub and_then : Piece → (Cursor → Piece) → Piece
 and_then p g = record { cursor = (g p.cursor).cursor; rows = p.rows ++ (g p.cursor).rows }
 
+-- 20
+abbrev pub rule_line : ℕ → Option Refusal
+rule_line rule = refuse_if (any (chosen_tests rule)) 20 0
+
 -- 15
 abbrev pub width_line : RenderChoice → RenderState → Option Refusal
 width_line c s = refuse_if (any (width_tests c.width s.width)) 15 0
@@ -72,7 +76,7 @@ module _ (P : RuleParts) where
   -- "Its answer is the new state with the number of comments left."
   abbrev pub laid_of : LayoutState → LayoutArgs LayoutChoice → LayoutResult LayoutState
   laid_of s q = record {
-    state = record { begun = true; closed = q.close; declaration = q.stop; cursor = (call_piece s q).cursor; mode = q.choice.mode };
+    state = record { begun = true; closed = q.close; declaration = q.stop; cursor = (call_piece s q).cursor; mode = q.choice.mode; rule = q.choice.rule };
     rows = (call_piece s q).rows;
     left = P.comments - (call_piece s q).cursor.placed;
   }
@@ -85,9 +89,9 @@ module _ (P : RuleParts) where
   abbrev pub rows_needed : LayoutArgs LayoutChoice → LayoutState → ℕ
   rows_needed q s = (call_piece s q).cursor.row
 
-  -- "Layout uses 1 to 7, 12, 8", in two parts: the lines before it is counted how many rows there will be, and 8
+  -- "Layout uses 1 to 7, 12, 8", and 20 "before 1", in two parts: the lines before it is counted how many rows there will be, and 8
   abbrev pub before_rows : LayoutArgs LayoutChoice → LayoutState → List ℕ → List (Option Refusal)
-  before_rows q s store = P.layout_image ∷ refuse_if (any (layout_tests q s store)) 12 0 ∷ []
+  before_rows q s store = rule_line q.choice.rule ∷ P.layout_image ∷ refuse_if (any (layout_tests q s store)) 12 0 ∷ []
 
   abbrev pub rows_line : LayoutArgs LayoutChoice → LayoutState → List ℕ → List (Option Refusal)
   rows_line q s store = refuse_if (ltb (rows_in store) (rows_needed q s)) 8 (rows_needed q s) ∷ []
@@ -111,6 +115,7 @@ module _ (P : RuleParts) where
       in_use = max s.in_use (P.needed store s.row q.stop);
       row = q.stop;
       width = q.choice.width;
+      rule = q.choice.rule;
     };
     marks = (drawn_of s q marks store).marks;
     text = (drawn_of s q marks store).text;
@@ -123,11 +128,12 @@ module _ (P : RuleParts) where
   abbrev pub bytes_needed : RenderArgs RenderChoice → RenderState → List ℕ → List ℕ → ℕ
   bytes_needed q s store marks = length (rendered_of s q.to (take s.in_use marks) store).text
 
-  -- "rendering 1, 3 by the same tests, then 11, 12, 9, 10", with 15 "directly after 12", in parts: the lines before marks are counted, 9, and
-  -- 10, which alone needs the text
+  -- "rendering 1, 3 by the same tests, then 11, 12, 9, 10", with 20 "before 1" and 15 "directly after 12", in parts: the lines before
+  -- marks are counted, 9, and 10, which alone needs the text
   abbrev pub before_marks : RenderArgs RenderChoice → RenderState → List ℕ → List ℕ → List (Option Refusal)
   before_marks q s store marks =
-      P.render_image_of q.to.choice
+      rule_line q.to.choice.rule
+      ∷ P.render_image_of q.to.choice
       ∷ refuse_at (P.wrong_row q.to.choice store s.row q.to.stop) 11
       ∷ refuse_if (any (render_tests q s store marks)) 12 0
       ∷ width_line q.to.choice s

@@ -1,9 +1,9 @@
--- Refusals 12 and 15, in groups: a test more goes into its group, a group more into the list.
+-- Refusals 12, 15 and 20, in groups: a test more goes into its group, a group more into the list.
 use Rattle.std.specs.Prelude.{Bool, false, not, ◌&&◌, ◌||◌, List, [], ◌∷◌, ◌++◌, ℕ, ◌/◌, ltb, eqb, length, take}
 use Rattle.rows.specs.Places.{PLACES}
 use Rattle.rows.specs.Limits.{MAX_ROWS, MAX_NUMBER}
 use Rattle.renderer_rules.specs.Limits.{MAX_INDENT, MAX_COLUMN}
-use Rattle.cut_rule.specs.Limits.{MIN_WIDTH, MAX_WIDTH}
+use Rattle.cut_rule.specs.Limits.{MIN_WIDTH, MAX_WIDTH, MIN_RULE, MAX_RULE}
 use Rattle.cut_rule.specs.Rules.{LayoutArgs, RenderArgs}
 use Rattle.renderer_rules.specs.declared.Pen.{Pen}
 use Rattle.cut_rule.specs.States.{LayoutChoice, RenderChoice, LayoutState, RenderState, NEW_MODE}
@@ -12,13 +12,25 @@ use Rattle.cut_rule.specs.States.{LayoutChoice, RenderChoice, LayoutState, Rende
 abbrev pub rows_in : List ℕ → ℕ
 rows_in store = length store / PLACES
 
+-- a choice "differs from a carried" one "other than 0"
+abbrev pub differs : ℕ → ℕ → Bool
+differs chosen carried = not (eqb carried 0) && not (eqb carried chosen)
+
+-- 12, of both kinds of calls: a rule "that differs from a carried choice other than 0"
+abbrev pub rule_tests : ℕ → ℕ → List Bool
+rule_tests rule carried = differs rule carried ∷ []
+
+-- 20: "a choice outside 1 to 3"
+abbrev pub chosen_tests : ℕ → List Bool
+chosen_tests rule = ltb rule MIN_RULE ∷ ltb MAX_RULE rule ∷ []
+
 -- ---- layout
 -- all of a state that has not begun is 0
 abbrev pub numbers_zero : LayoutState → Bool
 numbers_zero s =
     eqb s.declaration 0
     && (eqb s.cursor.row 0
-    && (eqb s.cursor.number 0 && (eqb s.cursor.placed 0 && (eqb s.cursor.position 0 && eqb s.mode 0))))
+    && (eqb s.cursor.number 0 && (eqb s.cursor.placed 0 && (eqb s.cursor.position 0 && (eqb s.mode 0 && eqb s.rule 0)))))
 
 abbrev pub all_zero : LayoutState → Bool
 all_zero s = not s.closed && numbers_zero s
@@ -56,7 +68,7 @@ mode_tests c s = ltb NEW_MODE c.mode ∷ (s.begun && not (eqb c.mode s.mode)) �
 abbrev pub layout_tests_in : ℕ → ℕ → ℕ → ℕ → LayoutArgs LayoutChoice → LayoutState → List Bool
 layout_tests_in declarations comments size rows q s =
     places_tests declarations comments size rows s
-    ++ (limit_tests s ++ (begun_tests s ++ (stop_tests declarations q s ++ mode_tests q.choice s)))
+    ++ (limit_tests s ++ (begun_tests s ++ (stop_tests declarations q s ++ (mode_tests q.choice s ++ rule_tests q.choice.rule s.rule))))
 
 -- ---- rendering
 -- "place past .. store or the rendering's stop; next row over 2,097,152"
@@ -78,8 +90,8 @@ mark_tests marks used = ltb (length marks) used ∷ odd_mark (take used marks) �
 
 -- 12, as far as it is of rendering
 abbrev pub render_tests : RenderArgs RenderChoice → RenderState → List ℕ → List ℕ → List Bool
-render_tests q s store marks = row_tests (rows_in store) q.to.stop s.row ++ (pen_tests s.pen ++ mark_tests marks s.in_use)
+render_tests q s store marks = row_tests (rows_in store) q.to.stop s.row ++ (pen_tests s.pen ++ (mark_tests marks s.in_use ++ rule_tests q.to.choice.rule s.rule))
 
 -- 15: "a chosen width outside 40 to 200, or one that differs from a carried width other than 0"
 abbrev pub width_tests : ℕ → ℕ → List Bool
-width_tests width carried = ltb width MIN_WIDTH ∷ ltb MAX_WIDTH width ∷ (not (eqb carried 0) && not (eqb carried width)) ∷ []
+width_tests width carried = ltb width MIN_WIDTH ∷ ltb MAX_WIDTH width ∷ differs width carried ∷ []

@@ -2,6 +2,8 @@
 -- Assumes nothing.
 use Rattle.image.proofs.Numbers.{read_numbers}
 use Rattle.rows.proofs.Table.{words_there}
+use Rattle.widths.proofs.Editions.{editions_hold}
+use Rattle.node_widths.proofs.Summed.{supplied_stay}
 use Rattle.renderer_rules.proofs.Call.{call_as_rust}
 use Rattle.renderer_rules.proofs.Checked.{fault_of_part}
 use Rattle.renderer_rules.proofs.Holds.{writes_pieces, no_slash_around}
@@ -90,6 +92,8 @@ claims = record {
     generator_lists = generator_lists;
     as_singles = as_singles;
     saves_1 = saves_1;
+    editions_hold = editions_hold;
+    supplied_stay = supplied_stay;
   };
   linked = record {
     linked_promises = linked_promises;

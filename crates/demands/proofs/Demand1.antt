@@ -1,7 +1,7 @@
 -- Every refusal is the table's, has one of the entry's numbers, and leaves the buffers as they were.
 -- Assumes nothing.
 use mathlib.Core.Path.{◌≡◌, refl, sym, ap, ◌∙◌}
-use mathlib.Core.Bool.{Bool, true, false, not, ◌||◌}
+use mathlib.Core.Bool.{Bool, true, false, cond, not, ◌||◌}
 use Rattle.std.specs.Prelude.{Option, None, Some, Result, Ok, Err}
 use mathlib.Core.List.{List, [], ◌∷◌, ◌++◌}
 use Prim.Native.Nat.{ℕ}
@@ -21,7 +21,9 @@ use Rattle.cut_rule.specs.Rules as rules
 use Rattle.cut_rule.specs.States as states
 use Rattle.cut_rule.specs.Tests as tests
 use Rattle.cut_rule.specs.Parts as cut
-use Rattle.whole_run.specs.Parts.{parts_of, render_image}
+use Rattle.text.specs.Utf8.{prefix, well_formed, ill_formed}
+use Rattle.widths.specs.Rules.{SUPPLIED}
+use Rattle.whole_run.specs.Parts.{parts_of, formed_line, render_image}
 use Rattle.whole_run.specs.Demands.{rules_of}
 use Rattle.whole_run.specs.Built.{FileChoice, layout_choice, reference_choice, drawn_due, rows_due, marks_due}
 use Rattle.whole_run.specs.File.{file_rows, file_marks, file_before_rows, file_rows_line, file_before_marks, file_marks_line, file_before_text, file_text_line}
@@ -94,7 +96,7 @@ more n (k ∷ ns) ms e = go (eqb n k) (more n ns ms) e
 pub under_more : (ns ms : List ℕ) (o : Option Refusal) → Under ns o → Under (ns ++ ms) o
 under_more ns ms o u = record { of = λ r e. more r.number ns ms (u.of r e) }
 
-under_before : (k : ℕ) (ns : List ℕ) (o : Option Refusal) → Under ns o → Under (k ∷ ns) o
+pub under_before : (k : ℕ) (ns : List ℕ) (o : Option Refusal) → Under ns o → Under (k ∷ ns) o
 under_before k ns o u = record { of = λ r e. one_more (eqb r.number k) (is_one_of r.number ns) (u.of r e) }
 
 -- ---- the tables
@@ -106,20 +108,32 @@ module _ (s b : List ℕ) where
       → Under layout_numbers ((rules_of s b).layout_refusal q z store)
   layout_under q z store =
       let needed = cut.rows_needed (parts_of s b) q z in
+      let later = reader_numbers ++ (12 ∷ 8 ∷ []) in
       let read : Under layout_numbers (read_refusal (read_all s b)) =
-      under_more reader_numbers (12 ∷ 8 ∷ []) (read_refusal (read_all s b)) (read_under s b) in
+      under_before 20 later (read_refusal (read_all s b)) (under_more reader_numbers (12 ∷ 8 ∷ []) (read_refusal (read_all s b)) (read_under s b)) in
       under_first layout_numbers (cut.layout_table (parts_of s b) q z store) (
-        read,
+        under_if layout_numbers (any (tests.chosen_tests q.choice.rule)) 20 0 refl,
         (
-          under_if layout_numbers (any (cut.layout_tests (parts_of s b) q z store)) 12 0 refl,
-          (under_if layout_numbers (ltb (tests.rows_in store) needed) 8 needed refl, tt),
+          read,
+          (
+            under_if layout_numbers (any (cut.layout_tests (parts_of s b) q z store)) 12 0 refl,
+            (under_if layout_numbers (ltb (tests.rows_in store) needed) 8 needed refl, tt),
+          ),
         ),
       )
 
-  image_under : Under render_numbers (render_image s b)
-  image_under =
-      under_first render_numbers (refuse_if (not (source_fits s)) 1 0 ∷ refuse_if (not (header b)) 3 0 ∷ [])
-      (under_if render_numbers (not (source_fits s)) 1 0 refl, (under_if render_numbers (not (header b)) 3 0 refl, tt))
+  formed_under : (rule : ℕ) → Under render_numbers (formed_line rule s)
+  unfolding ill_formed
+  formed_under rule = go (eqb rule SUPPLIED)
+    where
+      go : (t : Bool) → Under render_numbers (cond t None (refuse_if (not (well_formed s)) 2 (prefix s)))
+      go true = under_none render_numbers
+      go false = under_if render_numbers (not (well_formed s)) 2 (prefix s) refl
+
+  image_under : (rule : ℕ) → Under render_numbers (render_image rule s b)
+  image_under rule =
+      under_first render_numbers (refuse_if (not (source_fits s)) 1 0 ∷ formed_line rule s ∷ refuse_if (not (header b)) 3 0 ∷ [])
+      (under_if render_numbers (not (source_fits s)) 1 0 refl, (formed_under rule, (under_if render_numbers (not (header b)) 3 0 refl, tt)))
 
   pub render_under : (q : rules.RenderArgs states.RenderChoice) (z : states.RenderState) (store marks : List ℕ)
       → Under render_numbers ((rules_of s b).render_refusal q z store marks)
@@ -127,16 +141,19 @@ module _ (s b : List ℕ) where
       let needed = cut.marks_for (parts_of s b) q z store in
       let bytes = cut.bytes_needed (parts_of s b) q z store marks in
       under_first render_numbers (cut.render_table (parts_of s b) q z store marks) (
-        image_under,
+        under_if render_numbers (any (tests.chosen_tests q.to.choice.rule)) 20 0 refl,
         (
-          under_at render_numbers ((parts_of s b).wrong_row q.to.choice store z.row q.to.stop) 11 refl,
+          image_under q.to.choice.rule,
           (
-            under_if render_numbers (any (tests.render_tests q z store marks)) 12 0 refl,
+            under_at render_numbers ((parts_of s b).wrong_row q.to.choice store z.row q.to.stop) 11 refl,
             (
-              under_if render_numbers (any (tests.width_tests q.to.choice.width z.width)) 15 0 refl,
+              under_if render_numbers (any (tests.render_tests q z store marks)) 12 0 refl,
               (
-                under_if render_numbers (ltb (length marks) needed) 9 needed refl,
-                (under_if render_numbers (ltb q.room bytes) 10 bytes refl, tt),
+                under_if render_numbers (any (tests.width_tests q.to.choice.width z.width)) 15 0 refl,
+                (
+                  under_if render_numbers (ltb (length marks) needed) 9 needed refl,
+                  (under_if render_numbers (ltb q.room bytes) 10 bytes refl, tt),
+                ),
               ),
             ),
           ),
@@ -144,14 +161,17 @@ module _ (s b : List ℕ) where
       )
 
   -- ---- a whole file
-  -- 1 to 7, 12 and 15
-  pub before_under : (ns : List ℕ) → is_one_of 12 ns ≡ true → is_one_of 15 ns ≡ true → Under ns (read_refusal (read_all s b)) → (c : FileChoice)
+  -- 20, 1 to 7, 12 and 15
+  pub before_under : (ns : List ℕ) → is_one_of 20 ns ≡ true → is_one_of 12 ns ≡ true → is_one_of 15 ns ≡ true → Under ns (read_refusal (read_all s b)) → (c : FileChoice)
       → AllUnder ns (file_before_rows s b c)
-  before_under ns twelve fifteen read c = (
-    read,
+  before_under ns twenty twelve fifteen read c = (
+    under_if ns (any (tests.chosen_tests c.rule)) 20 0 twenty,
     (
-      under_if ns (any (tests.mode_tests (layout_choice c) states.layout_fresh)) 12 0 twelve,
-      (under_if ns (any (tests.width_tests c.width 0)) 15 0 fifteen, tt),
+      read,
+      (
+        under_if ns (any (tests.mode_tests (layout_choice c) states.layout_fresh)) 12 0 twelve,
+        (under_if ns (any (tests.width_tests c.width 0)) 15 0 fifteen, tt),
+      ),
     ),
   )
 
@@ -174,16 +194,20 @@ module _ (s b : List ℕ) where
 
   pub file_under : (c : FileChoice) (room : ℕ) → Under file_numbers (file_refusal s b c room)
   file_under c room =
-      let read = under_more reader_numbers (12 ∷ 15 ∷ 8 ∷ 9 ∷ 10 ∷ []) (read_refusal (read_all s b)) (read_under s b) in
-      whole_under file_numbers refl c room (early_under file_numbers refl refl c (before_under file_numbers refl refl read c))
+      let later = reader_numbers ++ (12 ∷ 15 ∷ 8 ∷ 9 ∷ 10 ∷ []) in
+      let read =
+      under_before 20 later (read_refusal (read_all s b))
+      (under_more reader_numbers (12 ∷ 15 ∷ 8 ∷ 9 ∷ 10 ∷ []) (read_refusal (read_all s b)) (read_under s b)) in
+      whole_under file_numbers refl c room (early_under file_numbers refl refl c (before_under file_numbers refl refl refl read c))
 
-  -- in the old mode at 80 the lines of 12 and 15 compute to none
+  -- in the old mode at 80, with supplied widths, the lines of 20, 12 and 15 compute to none
   pub reference_under : (room : ℕ) → Under reference_numbers (file_refusal s b reference_choice room)
   reference_under room =
       let read : Under reference_numbers (read_refusal (read_all s b)) =
       under_more reader_numbers (8 ∷ 9 ∷ 10 ∷ []) (read_refusal (read_all s b)) (read_under s b) in
       whole_under reference_numbers refl reference_choice room
-      (early_under reference_numbers refl refl reference_choice (read, (under_none reference_numbers, (under_none reference_numbers, tt))))
+      (early_under reference_numbers refl refl reference_choice
+      (under_none reference_numbers, (read, (under_none reference_numbers, (under_none reference_numbers, tt)))))
 
 frame_under : (frame : List ℕ) (room : ℕ) → Under frame_numbers (frame_table frame room)
 frame_under frame room =

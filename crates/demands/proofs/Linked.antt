@@ -9,7 +9,7 @@ use native.Mathlib.Omega.{arith}
 use lib.Dec.{eqb}
 use lib.ListN.{length, get_or, take, drop}
 use borrow.Author.Tests.{eqb-true}
-use Rattle.refusals.specs.Refusals.{Refusal, is_one_of}
+use Rattle.refusals.specs.Refusals.{Refusal, any, is_one_of}
 use Rattle.refusals.specs.Answers.{Answer, refused, accepted, answer_by, numbers_of}
 use Rattle.refusals.proofs.Answers.{told_zero, told_refusal}
 use Rattle.refusals.specs.Reasons.{number_of, answer_of}
@@ -19,6 +19,10 @@ use Rattle.image.specs.Read.{Read, got, bad, Image, read_all, read_refusal, read
 use Rattle.image.specs.declared.Document.{Document}
 use Rattle.cut_rule.specs.Run.{Call, CallResult, laid_out, written, Carried, start, run}
 use Rattle.cut_rule.specs.Plain.{at_first, answers_due, AllReadLaid}
+use Rattle.cut_rule.specs.Parts.{rule_line}
+use Rattle.cut_rule.specs.Tests.{chosen_tests}
+use Rattle.rows.specs.declared.units.Columns.{Columns}
+use Rattle.widths.specs.Rules.{columns_by}
 use Rattle.cut_rule.specs.Callers.{after_all, AllKept}
 use Rattle.cut_rule.specs.States as states
 use Rattle.cut_rule.specs.States.{NEW_MODE}
@@ -47,15 +51,17 @@ use Rattle.exports.specs.Numbers.{file_choice, tallies_from, told_document, told
 use Rattle.exports.specs.Calls.{ChecksFile, Lays, Renders, FormatsFile}
 use Rattle.exports.specs.Generator.{told_bytes}
 use Rattle.exports.specs.Saves.{told_batch, FormatsBatch}
+use Rattle.exports.specs.Measures.{told_columns}
 use Rattle.demands.specs.Demand1.{layout_numbers, render_numbers, file_numbers, count_numbers}
 use Rattle.demands.specs.Demand3.{Caller, fresh_caller, Made, Promised, after_made, call_made, answer_made, held, HeldAsDue}
 use Rattle.demands.specs.Demand3 as made
 use Rattle.demands.specs.Generator.{writer_numbers, steps_numbers}
 use Rattle.demands.specs.Saves.{batch_numbers}
 use Rattle.demands.specs.Linked.{reason_of, answer_from, checked_from, laying_from, rendering_from, formatted_from, counted_from, wrote_from, batch_from}
+use Rattle.demands.specs.Linked.{columns_from, columns_numbers}
 use Rattle.demands.specs.Linked.{LinkedPromises, Told, Linked1, Linked2, Holder, fresh_holder, LinkedCall, laid, rendered, LinkedPromised}
 use Rattle.demands.specs.Linked.{after_linked, call_linked, held_linked, made_linked, LinkedCut, Linked3, LinkedCallsHoldAll, LinkedLists, LinkedSingles}
-use Rattle.demands.proofs.Demand1.{Under, read_under, layout_under, render_under, file_under, count_under, left_same}
+use Rattle.demands.proofs.Demand1.{Under, under_if, read_under, layout_under, render_under, file_under, count_under, left_same}
 use Rattle.demands.proofs.Demand2.{demand_2}
 use Rattle.demands.proofs.Demand3.{made_run, demand_3, calls_hold_all}
 use Rattle.demands.proofs.Generator.{write_under, list_under, generator_lists}
@@ -182,6 +188,7 @@ laying_reads s b t n = record {
         declaration = t.declaration;
         cursor = t.cursor;
         mode = t.mode;
+        rule = t.rule;
       })
       n);
 }
@@ -200,6 +207,12 @@ counted_reads a = record { refusal = λ r rest. refusal_from _ _ r rest; given =
 
 wrote_reads : (n : ℕ) → Reads (answer_of (λ n. n)) wrote_from told_bytes n
 wrote_reads n = record { refusal = λ r rest. refusal_from _ _ r rest; given = λ rest. refl }
+
+columns_reads : (n : ℕ) → Reads (answer_of (λ (c : Columns). c.0)) columns_from told_columns n
+columns_reads n = record { refusal = λ r rest. refusal_from _ _ r rest; given = λ rest. refl }
+
+columns_under : (rule : ℕ) → Under columns_numbers (rule_line rule)
+columns_under rule = under_if columns_numbers (any (chosen_tests rule)) 20 0 refl
 
 batch_reads : (a : BatchResult) → Reads batched_answer batch_from told_batch a
 batch_reads a = record { refusal = λ r rest. refusal_from _ _ r rest; given = λ rest. refl }
@@ -306,6 +319,10 @@ linked_promises = record {
         table_left_of = p.table_left_of;
         texts_left_of = p.texts_left_of;
       };
+  columns =
+      λ text rule supplied out out2 h e.
+      read_back (answer_of (λ (c : Columns). c.0)) columns_from told_columns columns_numbers (rule_line rule) (columns_by rule supplied text) out out2
+      refl refl (columns_under rule) (omega arith) (omega arith) (columns_reads (columns_by rule supplied text)) e;
 }
 
 -- ---- demand 1
@@ -370,22 +387,27 @@ linked_1 = record {
       told_first told_batch batch_numbers o (batch_result c f) out out2 _ (batch_under c f (length table) (length output)) (omega arith) (omega arith)
       (λ r g. (p.table_left_of ∙ left_same o r table _ g, p.texts_left_of ∙ left_same o r output _ g))
       p.told_as;
+  columns =
+      λ text rule supplied out out2 h e.
+      told_first told_columns columns_numbers (rule_line rule) (columns_by rule supplied text) out out2 _ (columns_under rule) (omega arith) (omega arith)
+      (λ r f. tt)
+      e;
 }
 
 -- ---- demand 2: where 0 is first, the answer is the accepted one
-pub linked_layout : (s b store state args out store2 out2 : List ℕ) → length out ≡ 10 → Lays s b store state args out store2 out2
+pub linked_layout : (s b store state args out store2 out2 : List ℕ) → length out ≡ 11 → Lays s b store state args out store2 out2
     → get_or out2 0 0 ≡ 0
     → LayoutCalled s b (layout_state state) (layout_args args) store
-    (Ok (record { state = layout_state (take 8 (drop 2 out2)); left = get_or out2 1 0 })) store2
+    (Ok (record { state = layout_state (take 9 (drop 2 out2)); left = get_or out2 1 0 })) store2
 linked_layout s b store state args out store2 out2 h p e =
     subst (λ (r : Result Laid Refused). LayoutCalled s b (layout_state state) (layout_args args) store r store2) (from_accepted _ out2 e)
     (linked_promises.layout s b store state args out store2 out2 h p)
 
-pub linked_render : (s b store marks output state args out store2 marks2 output2 out2 : List ℕ) → length out ≡ 8
+pub linked_render : (s b store marks output state args out store2 marks2 output2 out2 : List ℕ) → length out ≡ 9
     → Renders s b store marks output state args out store2 marks2 output2 out2
     → get_or out2 0 0 ≡ 0
     → RenderCalled s b (render_state state) (render_args args) store marks output
-    (Ok (record { state = render_state (take 6 (drop 2 out2)); bytes = record { 0 = get_or out2 1 0 } }))
+    (Ok (record { state = render_state (take 7 (drop 2 out2)); bytes = record { 0 = get_or out2 1 0 } }))
     store2
     marks2
     output2
@@ -413,12 +435,12 @@ linked_batch f choice table output out table2 output2 out2 h p e =
 
 pub linked_2 : Linked2
 linked_2 = record {
-  at_stop = λ s b store stop mode out store2 out2 h p e. demand_2.at_stop s b store mode stop _ _ store2 (linked_layout s b store _ _ out store2 out2 h p e);
-  closed = λ s b store out store2 out2 h p e. demand_2.closed s b store _ _ store2 (linked_layout s b store _ _ out store2 out2 h p e);
-  closed_keeping = λ s b store out store2 out2 h p e. demand_2.closed_keeping s b store _ _ store2 (linked_layout s b store _ _ out store2 out2 h p e);
+  at_stop = λ s b store stop mode rule out store2 out2 h p e. demand_2.at_stop s b store mode rule stop _ _ store2 (linked_layout s b store _ _ out store2 out2 h p e);
+  closed = λ s b store rule out store2 out2 h p e. demand_2.closed s b store rule _ _ store2 (linked_layout s b store _ _ out store2 out2 h p e);
+  closed_keeping = λ s b store rule out store2 out2 h p e. demand_2.closed_keeping s b store rule _ _ store2 (linked_layout s b store _ _ out store2 out2 h p e);
   rendered =
-      λ s b store mode out store2 out2 h p e width marks output out3 store3 marks2 output2 out4 k q f.
-      demand_2.rendered s b store mode _ _ store2 (linked_layout s b store _ _ out store2 out2 h p e) width marks output _ _ store3 marks2 output2
+      λ s b store mode rule out store2 out2 h p e width marks output out3 store3 marks2 output2 out4 k q f.
+      demand_2.rendered s b store mode rule _ _ store2 (linked_layout s b store _ _ out store2 out2 h p e) width marks output _ _ store3 marks2 output2
       (linked_render s b store2 marks output _ _ out3 store3 marks2 output2 out4 k q f);
   file = λ s b choice output out output2 out2 h p e. demand_2.file s b _ output _ _ _ _ output2 (linked_file s b choice output out output2 out2 h p e);
 }
@@ -438,7 +460,7 @@ after_one : (w : Holder) (m : LinkedCall) → caller_of (after_linked w m) ≡ a
 after_one w (laid args out store2 out2) = go (eqb (get_or out2 0 0) 0)
   where
     new : List ℕ
-    new = take 8 (drop 2 out2)
+    new = take 9 (drop 2 out2)
 
     told : Refused
     told = record { reason = reason_of (get_or out2 0 0); place = get_or out2 1 0 }
@@ -459,7 +481,7 @@ after_one w (laid args out store2 out2) = go (eqb (get_or out2 0 0) 0)
 after_one w (rendered args output out store2 marks2 output2 out2) = go (eqb (get_or out2 0 0) 0)
   where
     new : List ℕ
-    new = take 6 (drop 2 out2)
+    new = take 7 (drop 2 out2)
 
     answer : Bool → Result Written Refused
     answer x =

@@ -1,7 +1,7 @@
 -- The batch's entries refuse by their table, each file by a whole file's without 10, and the batch is what single calls give.
 -- Assumes nothing.
 use mathlib.Core.Path.{refl, sym, ap, ◌∙◌}
-use mathlib.Core.List.{List, [], ◌∷◌}
+use mathlib.Core.List.{List, [], ◌∷◌, ◌++◌}
 use Prim.Native.Nat.{ℕ}
 use lib.Dec.{ltb}
 use lib.ListN.{length}
@@ -16,7 +16,7 @@ use Rattle.batch.proofs.Buffer.{cut_number}
 use Rattle.batch.proofs.Rooms.{early, single_by}
 use Rattle.batch.proofs.Singles.{as_singles}
 use Rattle.demands.specs.Saves.{batch_numbers, row_numbers, Saves1}
-use Rattle.demands.proofs.Demand1.{Under, under_if, under_first, under_read, under_more, read_under, before_under, early_under, answered, left_same, as_answer}
+use Rattle.demands.proofs.Demand1.{Under, under_if, under_first, under_read, under_more, under_before, read_under, before_under, early_under, answered, left_same, as_answer}
 
 -- ---- the batch's table
 frames_under : (f : List ℕ) → Under batch_numbers (read_refusal (all_saves f))
@@ -37,9 +37,12 @@ row_under : (c : FileChoice) (x : Save) → Under row_numbers (early c x)
 row_under c x =
     let s = x.source in
     let b = x.image in
-    let read = under_more reader_numbers (12 ∷ 15 ∷ 8 ∷ 9 ∷ []) (read_refusal (read_all s b)) (read_under s b) in
+    let later = reader_numbers ++ (12 ∷ 15 ∷ 8 ∷ 9 ∷ []) in
+    let read =
+    under_before 20 later (read_refusal (read_all s b))
+    (under_more reader_numbers (12 ∷ 15 ∷ 8 ∷ 9 ∷ []) (read_refusal (read_all s b)) (read_under s b)) in
     under_first row_numbers (file_before_text s b c file_rows file_marks)
-    (early_under s b row_numbers refl refl c (before_under s b row_numbers refl refl read c))
+    (early_under s b row_numbers refl refl c (before_under s b row_numbers refl refl refl read c))
 
 pub saves_1 : Saves1
 saves_1 = record {

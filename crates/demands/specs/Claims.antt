@@ -6,6 +6,8 @@ use Rattle.image.specs.Read.{ReadNumbers}
 use Rattle.rows.specs.Words.{WordsThere}
 use Rattle.acts.specs.Act.{Given, St}
 use Rattle.renderer_rules.specs.Call.{CallAsRust}
+use Rattle.widths.specs.Editions.{EditionsHold}
+use Rattle.node_widths.specs.Summed.{SuppliedStay}
 use Rattle.renderer_rules.specs.Check.{FaultOfPart}
 use Rattle.renderer_rules.specs.Holds.{WritesPieces, NoSlashAround}
 use Rattle.layout_facts.specs.Accepted.{FewRows, WordsDue}
@@ -115,6 +117,10 @@ pub record TheRequests : Type 0 where
   -- 7: "The result is that of single calls in the same order"
   pub as_singles : AsSingles
   pub saves_1 : Saves1
+  -- 8: "each table has hundreds of ranges, ascending and without overlap, shown over the whole table", and what it says of each number;
+  -- "Supplied widths stay equal to the Rust"
+  pub editions_hold : EditionsHold
+  pub supplied_stay : SuppliedStay
 
 -- all of it of the functions that other languages link
 pub record TheLinked : Type 0 where

@@ -31,19 +31,19 @@ use Rattle.figures.specs.declared.Counted.{Counted}
 use Rattle.figures.specs.Figures as count
 
 -- ---- the numbers of each entry, in the table's order
--- "Layout uses 1 to 7, 12, 8"
+-- "Layout uses 1 to 7, 12, 8", and 20 "before 1"
 abbrev pub layout_numbers : List ℕ
-layout_numbers = reader_numbers ++ (12 ∷ 8 ∷ [])
+layout_numbers = 20 ∷ (reader_numbers ++ (12 ∷ 8 ∷ []))
 
--- "rendering 1, 3 by the same tests, then 11, 12, 9, 10", and 15 "directly after 12"
+-- "rendering 1, 3 by the same tests, then 11, 12, 9, 10", 15 "directly after 12", 20 "before 1", and "under the new rule .. 2 as well"
 abbrev pub render_numbers : List ℕ
-render_numbers = 1 ∷ 3 ∷ 11 ∷ 12 ∷ 15 ∷ 9 ∷ 10 ∷ []
+render_numbers = 20 ∷ 1 ∷ 2 ∷ 3 ∷ 11 ∷ 12 ∷ 15 ∷ 9 ∷ 10 ∷ []
 
 -- a whole file, which is laid out and rendered from fresh, so that 12 refuses the mode alone
 abbrev pub file_numbers : List ℕ
-file_numbers = reader_numbers ++ (12 ∷ 15 ∷ 8 ∷ 9 ∷ 10 ∷ [])
+file_numbers = 20 ∷ (reader_numbers ++ (12 ∷ 15 ∷ 8 ∷ 9 ∷ 10 ∷ []))
 
--- the same in the old mode at 80, which neither 12 nor 15 refuses
+-- the same in the old mode at 80 with supplied widths, which neither 12 nor 15 nor 20 refuses
 abbrev pub reference_numbers : List ℕ
 reference_numbers = reader_numbers ++ (8 ∷ 9 ∷ 10 ∷ [])
 

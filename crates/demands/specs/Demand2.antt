@@ -3,7 +3,8 @@
 -- Of the two calls and of a whole file, by what they promise. What `fmt_parsed` builds: `fmt_parsed` (crates/layout/specs/Layout.antt), what it has
 -- when its loop reaches a declaration: `up_to` (crates/layout/specs/Closing.antt); what `Renderer` makes of it: `render_nodes`
 -- (crates/renderer_rules/specs/Renderer.antt), for a whole document `drawn_due` (crates/whole_run/specs/Built.antt), in each mode and at every width
--- that is accepted. The old mode is the Rust's; of the new one it is said what closing adds, and that no comment is left.
+-- that is accepted, by each rule of width. The old mode is the Rust's; of the new one it is said what closing adds, and that no comment is left.
+-- What a rule changes in the rows: `laid_nodes` (crates/node_widths/specs/Summed.antt), the sum in each `Str`.
 -- That the Rust's own choices give what there was before one could be made is `ReferenceHolds` (crates/whole_run/specs/Reference.antt).
 use Rattle.std.specs.Prelude.{◌≡◌, true, false, List, ℕ, ◌-◌, length, take, Ok}
 use Rattle.rows.specs.Rows.{sizes, rows}
@@ -12,6 +13,7 @@ use Rattle.acts.specs.Act.{Out}
 use Rattle.tree.specs.CommentList.{comments_of}
 use Rattle.comments.specs.Listed.{given}
 use Rattle.layout.specs.Layout.{fmt_parsed}
+use Rattle.node_widths.specs.Summed.{laid_nodes}
 use Rattle.layout.specs.Closing.{fresh, up_to, whole_rule}
 use Rattle.cut_rule.specs.Run.{write_front}
 use Rattle.cut_rule.specs.States.{OLD_MODE, NEW_MODE}
@@ -27,9 +29,10 @@ use Rattle.file.specs.Whole.{Formats}
 use Rattle.demands.specs.Fresh.{fresh_layout, fresh_render}
 
 -- ---- layout
--- the rows in the store, the numbers of the state and the comments left are those of o; behind the rows the store is as it was
-pub record LaidOutAs (b : List ℕ) (o : Out) (store : List ℕ) (t : LayoutState) (left : ℕ) (store2 : List ℕ) : Type 0 where
-  pub rows_due_of : store2 ≡ write_front (rows o.nodes 0) store
+-- the rows in the store, with the sums of the rule, the numbers of the state and the comments left are those of o; behind the rows the store is
+-- as it was
+pub record LaidOutAs (rule : ℕ) (s b : List ℕ) (o : Out) (store : List ℕ) (t : LayoutState) (left : ℕ) (store2 : List ℕ) : Type 0 where
+  pub rows_due_of : store2 ≡ write_front (rows (laid_nodes rule s b o.nodes) 0) store
   pub row_due : t.row ≡ sizes o.nodes
   pub number_due : t.number ≡ o.taken
   pub position_due : t.position ≡ o.pos
@@ -38,23 +41,23 @@ pub record LaidOutAs (b : List ℕ) (o : Out) (store : List ℕ) (t : LayoutStat
 
 -- a layout call from fresh up to declaration n, in either mode: "those `fmt_parsed` has when its loop reaches that declaration"
 abbrev pub AtStopDue : Type 0
-AtStopDue = (s b store : List ℕ) (mode n : ℕ) (t : LayoutState) (left : ℕ) (store2 : List ℕ)
-    → LayoutCalled s b fresh_layout (record { stop = n; close = false; mode = mode }) store (Ok (record { state = t; left = left })) store2
-    → LaidOutAs b (up_to (given s b) (tree s b) (take n (declared s b)) fresh) store t left store2
+AtStopDue = (s b store : List ℕ) (mode rule n : ℕ) (t : LayoutState) (left : ℕ) (store2 : List ℕ)
+    → LayoutCalled s b fresh_layout (record { stop = n; close = false; mode = mode; rule = rule }) store (Ok (record { state = t; left = left })) store2
+    → LaidOutAs rule s b (up_to (given s b) (tree s b) (take n (declared s b)) fresh) store t left store2
 
 -- and closing in the old mode: those that it has in the end
 abbrev pub ClosedDue : Type 0
-ClosedDue = (s b store : List ℕ) (t : LayoutState) (left : ℕ) (store2 : List ℕ)
-    → LayoutCalled s b fresh_layout (record { stop = length (declared s b); close = true; mode = OLD_MODE }) store
+ClosedDue = (s b store : List ℕ) (rule : ℕ) (t : LayoutState) (left : ℕ) (store2 : List ℕ)
+    → LayoutCalled s b fresh_layout (record { stop = length (declared s b); close = true; mode = OLD_MODE; rule = rule }) store
     (Ok (record { state = t; left = left })) store2
-    → LaidOutAs b (fmt_parsed (given s b) (tree s b) fresh) store t left store2
+    → LaidOutAs rule s b (fmt_parsed (given s b) (tree s b) fresh) store t left store2
 
 -- and in the new mode: the same, with every comment that waits before the final `Line`; "0 left"
 abbrev pub ClosedKeepingDue : Type 0
-ClosedKeepingDue = (s b store : List ℕ) (t : LayoutState) (left : ℕ) (store2 : List ℕ)
-    → LayoutCalled s b fresh_layout (record { stop = length (declared s b); close = true; mode = NEW_MODE }) store
+ClosedKeepingDue = (s b store : List ℕ) (rule : ℕ) (t : LayoutState) (left : ℕ) (store2 : List ℕ)
+    → LayoutCalled s b fresh_layout (record { stop = length (declared s b); close = true; mode = NEW_MODE; rule = rule }) store
     (Ok (record { state = t; left = left })) store2
-    → LaidOutAs b (whole_rule (given s b) (tree s b) true fresh) store t left store2 × (left ≡ 0)
+    → LaidOutAs rule s b (whole_rule (given s b) (tree s b) true fresh) store t left store2 × (left ≡ 0)
 
 -- ---- rendering
 -- the marks, and the text at the start of the output; behind them both are as they were
@@ -63,14 +66,15 @@ pub record DrawnAs (s b : List ℕ) (c : FileChoice) (marks out : List ℕ) (byt
   pub bytes_due : bytes ≡ length (drawn_due s b c).text
   pub text_due : out2 ≡ write_front (drawn_due s b c).text out
 
--- a rendering call from fresh over all rows that such a layout call left, in the mode and at the width that the two chose
+-- a rendering call from fresh over all rows that such a layout call left, in the mode, at the width and by the rule that the two chose
 abbrev pub RenderedDue : Type 0
-RenderedDue = (s b store : List ℕ) (mode : ℕ) (t : LayoutState) (left : ℕ) (store2 : List ℕ)
-    → LayoutCalled s b fresh_layout (record { stop = length (declared s b); close = true; mode = mode }) store (Ok (record { state = t; left = left })) store2
+RenderedDue = (s b store : List ℕ) (mode rule : ℕ) (t : LayoutState) (left : ℕ) (store2 : List ℕ)
+    → LayoutCalled s b fresh_layout (record { stop = length (declared s b); close = true; mode = mode; rule = rule }) store
+    (Ok (record { state = t; left = left })) store2
     → (width : ℕ) (marks out : List ℕ) (u : RenderState) (n : Bytes) (store3 marks2 out2 : List ℕ)
-    → RenderCalled s b fresh_render (record { stop = t.row; width = record { 0 = width } }) store2 marks out
+    → RenderCalled s b fresh_render (record { stop = t.row; width = record { 0 = width }; rule = rule }) store2 marks out
     (Ok (record { state = u; bytes = n })) store3 marks2 out2
-    → DrawnAs s b (record { width = width; mode = mode }) marks out n.0 marks2 out2
+    → DrawnAs s b (record { width = width; mode = mode; rule = rule }) marks out n.0 marks2 out2
 
 -- ---- a whole file
 pub record FileAs (s b : List ℕ) (c : FileChoice) (out : List ℕ) (bytes left count numbers : ℕ) (out2 : List ℕ) : Type 0 where
@@ -97,5 +101,5 @@ pub record Demand2 : Type 0 where
   pub file_new : NewModeLeavesNone
   -- "That no accepted tree yields deeper rows is proved."
   pub within_limits : LaidWithinLimits
-  -- "80 is the reference", and the old mode
+  -- "80 is the reference", the old mode, and supplied widths: "stay equal to the Rust"
   pub reference : ReferenceHolds

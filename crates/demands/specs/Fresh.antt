@@ -4,7 +4,7 @@ use Rattle.layout_call.specs.declared.LayoutState.{LayoutState}
 use Rattle.render_call.specs.declared.RenderState.{RenderState}
 
 abbrev pub fresh_layout : LayoutState
-fresh_layout = record { begun = false; closed = false; declaration = 0; row = 0; number = 0; placed = 0; position = 0; mode = 0 }
+fresh_layout = record { begun = false; closed = false; declaration = 0; row = 0; number = 0; placed = 0; position = 0; mode = 0; rule = 0 }
 
 abbrev pub fresh_render : RenderState
 fresh_render = record {
@@ -12,4 +12,5 @@ fresh_render = record {
   in_use = 0;
   row = 0;
   width = record { 0 = 0 };
+  rule = 0;
 }

@@ -1,5 +1,5 @@
 -- The functions that other languages link, `rrufthim_check`, `rrufthim_layout`, `rrufthim_render`, `rrufthim_format`, `rrufthim_count`,
--- `rrufthim_write`, `rrufthim_steps` and `rrufthim_batch`. Their answers and states are arrays of so many numbers. What the numbers of an
+-- `rrufthim_write`, `rrufthim_steps`, `rrufthim_batch` and `rrufthim_columns`. Their answers and states are arrays of so many numbers. What the numbers of an
 -- answer tell is an answer of the function in Rattle, and that function's promise holds of it (`LinkedPromises`). So the three demands and the
 -- sentences of requests 4, 5 and 7 hold of what is linked. proofs/Linked.antt proves it.
 use Rattle.std.specs.Prelude.{◌≡◌, true, cond, List, [], ◌∷◌, ◌++◌, map, ℕ, eqb, length, get_or, take, drop, replicate, Option}
@@ -8,6 +8,10 @@ use Rattle.refusals.specs.Refusals.{Refusal, is_one_of}
 use Rattle.refusals.specs.declared.Reason.{Reason}
 use Rattle.refusals.specs.declared.Reason.TheVariants as reason
 use Rattle.refusals.specs.declared.Refused.{Refused}
+use Rattle.refusals.specs.Reasons.{answer_of}
+use Rattle.rows.specs.declared.units.Columns.{Columns}
+use Rattle.cut_rule.specs.Parts.{rule_line}
+use Rattle.choices.specs.Columns.{columns_answer}
 use Rattle.image.specs.Read.{read_all, reader_numbers, Checks, read_refusal}
 use Rattle.image.specs.declared.Document.{Document}
 use Rattle.comments.specs.Listed.{given}
@@ -43,6 +47,7 @@ use Rattle.exports.specs.Numbers.{layout_state, layout_args, render_state, rende
 use Rattle.exports.specs.Calls.{ChecksFile, CountsFile, Lays, Renders, FormatsFile}
 use Rattle.exports.specs.Generator.{WritesImage, ListsSteps}
 use Rattle.exports.specs.Saves.{FormatsBatch}
+use Rattle.exports.specs.Measures.{MeasuresText}
 use Rattle.demands.specs.Demand1.{layout_numbers, render_numbers, file_numbers, count_numbers}
 use Rattle.demands.specs.Demand2.{LaidOutAs, DrawnAs, FileAs}
 use Rattle.demands.specs.Demand3.{Caller, Made, after_made, call_made, answer_made, held, HeldAsDue}
@@ -76,7 +81,8 @@ reason_of n =
     (cond (eqb n 16) reason.Steps
     (cond (eqb n 17) reason.ImageNeeds
     (cond (eqb n 18) reason.Frames
-    reason.BatchNeeds)))))))))))))))))
+    (cond (eqb n 19) reason.BatchNeeds
+    reason.Rule))))))))))))))))))
 
 -- an answer, by what it tells where it begins with 0
 abbrev pub answer_from : {A : Type 0} → A → List ℕ → Result A Refused
@@ -86,10 +92,10 @@ abbrev pub checked_from : List ℕ → Result Document Refused
 checked_from o = answer_from (record { comments = get_or o 1 0; tree = get_or o 2 0 }) o
 
 abbrev pub laying_from : List ℕ → Result Laid Refused
-laying_from o = answer_from (record { state = layout_state (take 8 (drop 2 o)); left = get_or o 1 0 }) o
+laying_from o = answer_from (record { state = layout_state (take 9 (drop 2 o)); left = get_or o 1 0 }) o
 
 abbrev pub rendering_from : List ℕ → Result Written Refused
-rendering_from o = answer_from (record { state = render_state (take 6 (drop 2 o)); bytes = record { 0 = get_or o 1 0 } }) o
+rendering_from o = answer_from (record { state = render_state (take 7 (drop 2 o)); bytes = record { 0 = get_or o 1 0 } }) o
 
 abbrev pub formatted_from : List ℕ → Result Text Refused
 formatted_from o = answer_from (record { bytes = record { 0 = get_or o 1 0 }; left = get_or o 2 0; rows = get_or o 3 0; numbers = get_or o 4 0 }) o
@@ -106,13 +112,16 @@ wrote_from o = answer_from (get_or o 1 0) o
 abbrev pub batch_from : List ℕ → Result Batch Refused
 batch_from o = answer_from (record { files = get_or o 1 0; bytes = get_or o 2 0 }) o
 
+abbrev pub columns_from : List ℕ → Result Columns Refused
+columns_from o = answer_from (record { 0 = get_or o 1 0 }) o
+
 -- the promise of each, by what is promised of the function that is linked
 pub record LinkedPromises : Type 0 where
   pub check : (s b out out2 : List ℕ) → length out ≡ 4 → ChecksFile s b out out2
       → Checks s b (checked_from out2)
-  pub layout : (s b store state args out store2 out2 : List ℕ) → length out ≡ 10 → Lays s b store state args out store2 out2
+  pub layout : (s b store state args out store2 out2 : List ℕ) → length out ≡ 11 → Lays s b store state args out store2 out2
       → LayoutCalled s b (layout_state state) (layout_args args) store (laying_from out2) store2
-  pub render : (s b store marks output state args out store2 marks2 output2 out2 : List ℕ) → length out ≡ 8
+  pub render : (s b store marks output state args out store2 marks2 output2 out2 : List ℕ) → length out ≡ 9
       → Renders s b store marks output state args out store2 marks2 output2 out2
       → RenderCalled s b (render_state state) (render_args args) store marks output (rendering_from out2) store2 marks2 output2
   pub format : (s b choice output out output2 out2 : List ℕ) → length out ≡ 5 → FormatsFile s b choice output out output2 out2
@@ -125,8 +134,14 @@ pub record LinkedPromises : Type 0 where
       → Lists s b output (wrote_from out2) output2
   pub batch : (f choice table output out table2 output2 out2 : List ℕ) → length out ≡ 3 → FormatsBatch f choice table output out table2 output2 out2
       → Batches f (to_choice (file_choice choice)) table output (batch_from out2) table2 output2
+  pub columns : (text : List ℕ) (rule supplied : ℕ) (out out2 : List ℕ) → length out ≡ 2 → MeasuresText text rule supplied out out2
+      → answer_of (λ (c : Columns). c.0) (columns_from out2) ≡ columns_answer rule supplied text
 
 -- ---- demand 1
+-- the columns of a text: 20 alone
+abbrev pub columns_numbers : List ℕ
+columns_numbers = 20 ∷ []
+
 -- a refusal in an answer's first two places; it is one of the entry's numbers, none of which is 0, and `Kept` says that its buffers are as they were
 pub record ToldRefusal (numbers : List ℕ) (r : Refusal) (out2 : List ℕ) (Kept : Type 0) : Type 0 where
   pub number_told : get_or out2 0 0 ≡ r.number
@@ -143,11 +158,11 @@ pub record Linked1 : Type 0 where
   pub check : (s b out out2 : List ℕ) → length out ≡ 4
       → ChecksFile s b out out2
       → Told reader_numbers (read_refusal (read_all s b)) out2 (Unit {0})
-  pub layout : (s b store state args out store2 out2 : List ℕ) → length out ≡ 10
+  pub layout : (s b store state args out store2 out2 : List ℕ) → length out ≡ 11
       → Lays s b store state args out store2 out2
       → Told layout_numbers ((rules_of s b).layout_refusal (layout.to_args (layout_args args)) (layout.to_state (layout_state state)) store) out2
       (store2 ≡ store)
-  pub render : (s b store marks output state args out store2 marks2 output2 out2 : List ℕ) → length out ≡ 8
+  pub render : (s b store marks output state args out store2 marks2 output2 out2 : List ℕ) → length out ≡ 9
       → Renders s b store marks output state args out store2 marks2 output2 out2
       → Told render_numbers
       ((rules_of s b).render_refusal (render.to_args (render_args args) (length output)) (render.to_state (render_state state)) store marks) out2
@@ -162,38 +177,40 @@ pub record Linked1 : Type 0 where
       → Told steps_numbers (steps_of_refusal s b (length output)) out2 (output2 ≡ output)
   pub batch : (f choice table output out table2 output2 out2 : List ℕ) → length out ≡ 3 → FormatsBatch f choice table output out table2 output2 out2
       → Told batch_numbers (batch_refusal (to_choice (file_choice choice)) f (length table) (length output)) out2 ((table2 ≡ table) × (output2 ≡ output))
+  pub columns : (text : List ℕ) (rule supplied : ℕ) (out out2 : List ℕ) → length out ≡ 2 → MeasuresText text rule supplied out out2
+      → Told columns_numbers (rule_line rule) out2 (Unit {0})
 
 -- ---- demand 2
 -- "Fresh is all 0"
 abbrev pub fresh_layout_numbers : List ℕ
-fresh_layout_numbers = replicate 8 0
+fresh_layout_numbers = replicate 9 0
 
 abbrev pub fresh_render_numbers : List ℕ
-fresh_render_numbers = replicate 6 0
+fresh_render_numbers = replicate 7 0
 
 -- calls from fresh that answer with 0 first leave what `fmt_parsed` builds and renders; states, comments left and bytes are the answer's numbers
 pub record Linked2 : Type 0 where
-  pub at_stop : (s b store : List ℕ) (stop mode : ℕ) (out store2 out2 : List ℕ) → length out ≡ 10
-      → Lays s b store fresh_layout_numbers (stop ∷ 0 ∷ mode ∷ []) out store2 out2
+  pub at_stop : (s b store : List ℕ) (stop mode rule : ℕ) (out store2 out2 : List ℕ) → length out ≡ 11
+      → Lays s b store fresh_layout_numbers (stop ∷ 0 ∷ mode ∷ rule ∷ []) out store2 out2
       → get_or out2 0 0 ≡ 0
-      → LaidOutAs b (up_to (given s b) (tree s b) (take stop (declared s b)) fresh) store (layout_state (take 8 (drop 2 out2))) (get_or out2 1 0) store2
-  pub closed : (s b store out store2 out2 : List ℕ) → length out ≡ 10
-      → Lays s b store fresh_layout_numbers (length (declared s b) ∷ 1 ∷ OLD_MODE ∷ []) out store2 out2
+      → LaidOutAs rule s b (up_to (given s b) (tree s b) (take stop (declared s b)) fresh) store (layout_state (take 9 (drop 2 out2))) (get_or out2 1 0) store2
+  pub closed : (s b store : List ℕ) (rule : ℕ) (out store2 out2 : List ℕ) → length out ≡ 11
+      → Lays s b store fresh_layout_numbers (length (declared s b) ∷ 1 ∷ OLD_MODE ∷ rule ∷ []) out store2 out2
       → get_or out2 0 0 ≡ 0
-      → LaidOutAs b (fmt_parsed (given s b) (tree s b) fresh) store (layout_state (take 8 (drop 2 out2))) (get_or out2 1 0) store2
-  pub closed_keeping : (s b store out store2 out2 : List ℕ) → length out ≡ 10
-      → Lays s b store fresh_layout_numbers (length (declared s b) ∷ 1 ∷ NEW_MODE ∷ []) out store2 out2
+      → LaidOutAs rule s b (fmt_parsed (given s b) (tree s b) fresh) store (layout_state (take 9 (drop 2 out2))) (get_or out2 1 0) store2
+  pub closed_keeping : (s b store : List ℕ) (rule : ℕ) (out store2 out2 : List ℕ) → length out ≡ 11
+      → Lays s b store fresh_layout_numbers (length (declared s b) ∷ 1 ∷ NEW_MODE ∷ rule ∷ []) out store2 out2
       → get_or out2 0 0 ≡ 0
-      → LaidOutAs b (whole_rule (given s b) (tree s b) true fresh) store (layout_state (take 8 (drop 2 out2))) (get_or out2 1 0) store2
+      → LaidOutAs rule s b (whole_rule (given s b) (tree s b) true fresh) store (layout_state (take 9 (drop 2 out2))) (get_or out2 1 0) store2
       × (get_or out2 1 0 ≡ 0)
   -- a rendering over all rows of such a layout: its stop is the layout state's next row
-  pub rendered : (s b store : List ℕ) (mode : ℕ) (out store2 out2 : List ℕ) → length out ≡ 10
-      → Lays s b store fresh_layout_numbers (length (declared s b) ∷ 1 ∷ mode ∷ []) out store2 out2
+  pub rendered : (s b store : List ℕ) (mode rule : ℕ) (out store2 out2 : List ℕ) → length out ≡ 11
+      → Lays s b store fresh_layout_numbers (length (declared s b) ∷ 1 ∷ mode ∷ rule ∷ []) out store2 out2
       → get_or out2 0 0 ≡ 0
-      → (width : ℕ) (marks output out3 store3 marks2 output2 out4 : List ℕ) → length out3 ≡ 8
-      → Renders s b store2 marks output fresh_render_numbers ((layout_state (take 8 (drop 2 out2))).row ∷ width ∷ []) out3 store3 marks2 output2 out4
+      → (width : ℕ) (marks output out3 store3 marks2 output2 out4 : List ℕ) → length out3 ≡ 9
+      → Renders s b store2 marks output fresh_render_numbers ((layout_state (take 9 (drop 2 out2))).row ∷ width ∷ rule ∷ []) out3 store3 marks2 output2 out4
       → get_or out4 0 0 ≡ 0
-      → DrawnAs s b (record { width = width; mode = mode }) marks output (get_or out4 1 0) marks2 output2
+      → DrawnAs s b (record { width = width; mode = mode; rule = rule }) marks output (get_or out4 1 0) marks2 output2
   pub file : (s b choice output out output2 out2 : List ℕ) → length out ≡ 5 → FormatsFile s b choice output out output2 out2 → get_or out2 0 0 ≡ 0
       → FileAs s b (to_choice (file_choice choice)) output (get_or out2 1 0) (get_or out2 2 0) (get_or out2 3 0) (get_or out2 4 0) output2
 
@@ -218,16 +235,16 @@ pub data LinkedCall : Type 0 where
   rendered : (args output out store2 marks2 output2 out2 : List ℕ) → LinkedCall
 
 abbrev pub LinkedPromised : (s b : List ℕ) → Holder → LinkedCall → Type 0
-LinkedPromised s b w (laid args out store2 out2) = (length out ≡ 10) × Lays s b w.store w.layout_state_of args out store2 out2
+LinkedPromised s b w (laid args out store2 out2) = (length out ≡ 11) × Lays s b w.store w.layout_state_of args out store2 out2
 LinkedPromised s b w (rendered args output out store2 marks2 output2 out2) =
-    (length out ≡ 8) × Renders s b w.store w.marks output w.render_state_of args out store2 marks2 output2 out2
+    (length out ≡ 9) × Renders s b w.store w.marks output w.render_state_of args out store2 marks2 output2 out2
 
 -- what the caller holds after a call: the new state is the answer from its third place on
 abbrev pub after_linked : Holder → LinkedCall → Holder
 after_linked w (laid args out store2 out2) = record {
   store = store2;
   marks = w.marks;
-  layout_state_of = if_accepted out2 (take 8 (drop 2 out2)) w.layout_state_of;
+  layout_state_of = if_accepted out2 (take 9 (drop 2 out2)) w.layout_state_of;
   render_state_of = w.render_state_of;
   text = w.text;
   left = if_accepted out2 (Some (get_or out2 1 0)) w.left;
@@ -236,7 +253,7 @@ after_linked w (rendered args output out store2 marks2 output2 out2) = record {
   store = store2;
   marks = marks2;
   layout_state_of = w.layout_state_of;
-  render_state_of = if_accepted out2 (take 6 (drop 2 out2)) w.render_state_of;
+  render_state_of = if_accepted out2 (take 7 (drop 2 out2)) w.render_state_of;
   text = w.text ++ if_accepted out2 (take (get_or out2 1 0) output2) [];
   left = w.left;
 }

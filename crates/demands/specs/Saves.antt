@@ -19,7 +19,7 @@ batch_numbers = 18 ∷ 19 ∷ []
 
 -- those of a row of the table: a whole file's, but for 10, since it has "output enough"
 abbrev pub row_numbers : List ℕ
-row_numbers = reader_numbers ++ (12 ∷ 15 ∷ 8 ∷ 9 ∷ [])
+row_numbers = 20 ∷ (reader_numbers ++ (12 ∷ 15 ∷ 8 ∷ 9 ∷ []))
 
 pub record Saves1 : Type 0 where
   pub batch : (f : List ℕ) (c : FileChoice) (table out : List ℕ) (r : Result Batch Refused) (table2 out2 : List ℕ) → Batches f c table out r table2 out2

@@ -19,12 +19,13 @@ laid_numbers t =
     ∷ t.state.placed
     ∷ t.state.position
     ∷ t.state.mode
+    ∷ t.state.rule
     ∷ []
 
 abbrev pub written_numbers : Written → List ℕ
 written_numbers w =
     let pen = w.state.pen in
-    w.bytes.0 ∷ pen.indent ∷ pen.next_indent ∷ pen.column.0 ∷ w.state.in_use ∷ w.state.row ∷ w.state.width.0 ∷ []
+    w.bytes.0 ∷ pen.indent ∷ pen.next_indent ∷ pen.column.0 ∷ w.state.in_use ∷ w.state.row ∷ w.state.width.0 ∷ w.state.rule ∷ []
 
 abbrev pub text_numbers : Text → List ℕ
 text_numbers t = told_file (to_result t)

@@ -3,3 +3,4 @@ pub mod Given
 pub mod Calls
 pub mod Generator
 pub mod Saves
+pub mod Measures

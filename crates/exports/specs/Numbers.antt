@@ -35,6 +35,7 @@ layout_state l = record {
   placed = get_or l 5 0;
   position = get_or l 6 0;
   mode = get_or l 7 0;
+  rule = get_or l 8 0;
 }
 
 abbrev pub render_state : List ℕ → RenderState
@@ -43,20 +44,21 @@ render_state l = record {
   in_use = get_or l 3 0;
   row = get_or l 4 0;
   width = record { 0 = get_or l 5 0 };
+  rule = get_or l 6 0;
 }
 
 -- ---- arguments and choices
--- the declaration to stop before, whether to close, and the mode
+-- the declaration to stop before, whether to close, the mode, and the rule of width
 abbrev pub layout_args : List ℕ → LayoutArgs
-layout_args l = record { stop = get_or l 0 0; close = flag (get_or l 1 0); mode = get_or l 2 0 }
+layout_args l = record { stop = get_or l 0 0; close = flag (get_or l 1 0); mode = get_or l 2 0; rule = get_or l 3 0 }
 
--- the row to stop before, and the width
+-- the row to stop before, the width, and the rule
 abbrev pub render_args : List ℕ → RenderArgs
-render_args l = record { stop = get_or l 0 0; width = record { 0 = get_or l 1 0 } }
+render_args l = record { stop = get_or l 0 0; width = record { 0 = get_or l 1 0 }; rule = get_or l 2 0 }
 
--- of a whole file: the width, and the mode
+-- of a whole file: the width, the mode, and the rule
 abbrev pub file_choice : List ℕ → FileChoice
-file_choice l = record { width = record { 0 = get_or l 0 0 }; mode = get_or l 1 0 }
+file_choice l = record { width = record { 0 = get_or l 0 0 }; mode = get_or l 1 0; rule = get_or l 2 0 }
 
 -- ---- answers
 -- an answer with the numbers that it tells
@@ -80,8 +82,9 @@ told_call s b (laid_out t n) =
     ∷ t.cursor.placed
     ∷ t.cursor.position
     ∷ t.mode
+    ∷ t.rule
     ∷ []
-told_call s b (written t n) = n ∷ t.pen.indent ∷ t.pen.next_indent ∷ t.pen.column.0 ∷ t.in_use ∷ t.row ∷ t.width ∷ []
+told_call s b (written t n) = n ∷ t.pen.indent ∷ t.pen.next_indent ∷ t.pen.column.0 ∷ t.in_use ∷ t.row ∷ t.width ∷ t.rule ∷ []
 
 -- of a whole file the bytes written, the comments left, the rows and the group numbers
 abbrev pub told_file : FileResult → List ℕ

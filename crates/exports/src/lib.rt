@@ -5,6 +5,7 @@
 #![tactic(auto)]
 
 pub mod generator;
+pub mod measures;
 mod numbers;
 pub mod saves;
 
@@ -44,22 +45,22 @@ fn document_numbers(source: &[u8], image: &[u8]) -> Result<[u64; 3], Refused>
 
 // Whether a source and an image are accepted. `out` gets the refusal's number and place, or 0, the number of comments, the tree's offset and
 // the number of declarations.
-pub fn rrufthim_check_s1(source: &[u8], image: &[u8], out: &mut [u64; 4])
+pub fn rrufthim_check_s2(source: &[u8], image: &[u8], out: &mut [u64; 4])
     ensures { ChecksFile source.now image.now out.old out.new }
 {
     put_answer(out, document_numbers(source, image));
 }
 
-// A layout call. The state: begun, closed, next declaration, next row, next number, comments placed, position, mode. The arguments: the
-// declaration to stop before, whether to close, and the mode. `out` gets the refusal's number and place, or 0, the comments left and the new
-// state.
-pub fn rrufthim_layout_s1(
+// A layout call. The state: begun, closed, next declaration, next row, next number, comments placed, position, mode, rule. The arguments:
+// the declaration to stop before, whether to close, the mode, and the rule of width. `out` gets the refusal's number and place, or 0, the
+// comments left and the new state.
+pub fn rrufthim_layout_s2(
     source: &[u8],
     image: &[u8],
     store: &mut [u32],
-    state: &[u64; 8],
-    args: &[u64; 3],
-    out: &mut [u64; 10],
+    state: &[u64; 9],
+    args: &[u64; 4],
+    out: &mut [u64; 11],
 )
     ensures { Lays source.now image.now store.old state.now args.now out.old store.new out.new }
 {
@@ -67,17 +68,17 @@ pub fn rrufthim_layout_s1(
     put_answer(out, laid.map(laid_numbers));
 }
 
-// A rendering call. The state: indent, next indent, column, marks in use, next row, width. The arguments: the row to stop before, and the
-// width. `out` gets the refusal's number and place, or 0, the bytes written and the new state.
-pub fn rrufthim_render_s1(
+// A rendering call. The state: indent, next indent, column, marks in use, next row, width, rule. The arguments: the row to stop before,
+// the width, and the rule of width. `out` gets the refusal's number and place, or 0, the bytes written and the new state.
+pub fn rrufthim_render_s2(
     source: &[u8],
     image: &[u8],
     store: &mut [u32],
     marks: &mut [u8],
     output: &mut [u8],
-    state: &[u64; 6],
-    args: &[u64; 2],
-    out: &mut [u64; 8],
+    state: &[u64; 7],
+    args: &[u64; 3],
+    out: &mut [u64; 9],
 )
     ensures { Renders source.now image.now store.old marks.old output.old state.now args.now out.old store.new marks.new output.new out.new }
 {
@@ -87,12 +88,12 @@ pub fn rrufthim_render_s1(
     put_answer(out, written.map(written_numbers));
 }
 
-// The run of one file: all is laid out and rendered, in rows and marks of its own. The choice: the width and the mode. `out` gets the refusal's
-// number and place, or 0, the bytes written, the comments left, the rows and the group numbers.
-pub fn rrufthim_format_s1(
+// The run of one file: all is laid out and rendered, in rows and marks of its own. The choice: the width, the mode and the rule of width. `out`
+// gets the refusal's number and place, or 0, the bytes written, the comments left, the rows and the group numbers.
+pub fn rrufthim_format_s2(
     source: &[u8],
     image: &[u8],
-    choice: &[u64; 2],
+    choice: &[u64; 3],
     output: &mut [u8],
     out: &mut [u64; 5],
 )
@@ -104,7 +105,7 @@ pub fn rrufthim_format_s1(
 
 // The newlines of a range of the source, UTF-8 or not. `out` gets how many there are and the place of the last, or the range's end if there is
 // none; none is counted where the range is outside the source, reversed or off a boundary.
-pub fn rrufthim_newlines_s1(source: &[u8], start: u64, end: u64, out: &mut [u64; 2])
+pub fn rrufthim_newlines_s2(source: &[u8], start: u64, end: u64, out: &mut [u64; 2])
     ensures { out.new ≡ sets out.old 0 (told_newlines (count_newlines source.now start end)) }
 {
     let found = count_newlines(source, start as usize, end as usize);
@@ -114,7 +115,7 @@ pub fn rrufthim_newlines_s1(source: &[u8], start: u64, end: u64, out: &mut [u64;
 // Counts a file with those before it: its figures, the new tallies, and wrapped over given. The tallies: how many files, then bytes, newlines,
 // column, given, wrapped, placed, left. `out` gets the refusal's number and place, or 0, the seven figures, the eight tallies, and the
 // fraction's two numbers.
-pub fn rrufthim_count_s1(source: &[u8], image: &[u8], tallies: &[u64; 8], out: &mut [u64; 18])
+pub fn rrufthim_count_s2(source: &[u8], image: &[u8], tallies: &[u64; 8], out: &mut [u64; 18])
     ensures { CountsFile source.now image.now tallies.now out.old out.new }
 {
     let counted = count_file(source, image, tallies_from(tallies));

@@ -17,7 +17,7 @@ use rows::units::Columns;
 use tallies::{Figures, Tallies};
 
 // A flag is yes for every number but 0.
-pub(crate) fn layout_state(from: &[u64; 8]) -> LayoutState
+pub(crate) fn layout_state(from: &[u64; 9]) -> LayoutState
     ensures { result ≡ layout_state from.now }
 {
     LayoutState {
@@ -29,20 +29,22 @@ pub(crate) fn layout_state(from: &[u64; 8]) -> LayoutState
         placed: from[5] as usize,
         position: from[6] as usize,
         mode: from[7] as usize,
+        rule: from[8] as usize,
     }
 }
 
-pub(crate) fn layout_args(from: &[u64; 3]) -> LayoutArgs
+pub(crate) fn layout_args(from: &[u64; 4]) -> LayoutArgs
     ensures { result ≡ layout_args from.now }
 {
     LayoutArgs {
         stop: from[0] as usize,
         close: from[1] != 0,
         mode: from[2] as usize,
+        rule: from[3] as usize,
     }
 }
 
-pub(crate) fn render_state(from: &[u64; 6]) -> RenderState
+pub(crate) fn render_state(from: &[u64; 7]) -> RenderState
     ensures { result ≡ render_state from.now }
 {
     RenderState {
@@ -54,24 +56,27 @@ pub(crate) fn render_state(from: &[u64; 6]) -> RenderState
         in_use: from[3] as usize,
         row: from[4] as usize,
         width: Columns(from[5] as usize),
+        rule: from[6] as usize,
     }
 }
 
-pub(crate) fn render_args(from: &[u64; 2]) -> RenderArgs
+pub(crate) fn render_args(from: &[u64; 3]) -> RenderArgs
     ensures { result ≡ render_args from.now }
 {
     RenderArgs {
         stop: from[0] as usize,
         width: Columns(from[1] as usize),
+        rule: from[2] as usize,
     }
 }
 
-pub(crate) fn file_choice(from: &[u64; 2]) -> FileChoice
+pub(crate) fn file_choice(from: &[u64; 3]) -> FileChoice
     ensures { result ≡ file_choice from.now }
 {
     FileChoice {
         width: Columns(from[0] as usize),
         mode: from[1] as usize,
+        rule: from[2] as usize,
     }
 }
 
@@ -112,7 +117,7 @@ pub(crate) fn put_answer<const N: usize>(out: &mut [u64], answer: Result<[u64; N
 }
 
 // What a layout call that is accepted tells.
-pub(crate) fn laid_numbers(laid: Laid) -> [u64; 9]
+pub(crate) fn laid_numbers(laid: Laid) -> [u64; 10]
     ensures { result ≡ laid_numbers laid }
 {
     let state = laid.state;
@@ -126,11 +131,12 @@ pub(crate) fn laid_numbers(laid: Laid) -> [u64; 9]
         state.placed as u64,
         state.position as u64,
         state.mode as u64,
+        state.rule as u64,
     ]
 }
 
 // What a rendering call that is accepted tells.
-pub(crate) fn written_numbers(written: Written) -> [u64; 7]
+pub(crate) fn written_numbers(written: Written) -> [u64; 8]
     ensures { result ≡ written_numbers written }
 {
     let state = written.state;
@@ -142,6 +148,7 @@ pub(crate) fn written_numbers(written: Written) -> [u64; 7]
         state.in_use as u64,
         state.row as u64,
         state.width.0 as u64,
+        state.rule as u64,
     ]
 }
 
@@ -162,6 +169,13 @@ pub(crate) fn bytes_numbers(bytes: usize) -> [u64; 1]
     ensures { result ≡ bytes ∷ [] }
 {
     [bytes as u64]
+}
+
+// What the columns of a text tell.
+pub(crate) fn columns_numbers(columns: Columns) -> [u64; 1]
+    ensures { result ≡ columns.0 ∷ [] }
+{
+    [columns.0 as u64]
 }
 
 // What a batch tells.

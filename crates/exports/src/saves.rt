@@ -5,11 +5,11 @@ ghost use Rattle.exports.specs.Saves.{FormatsBatch};
 use crate::numbers::{batch_numbers, file_choice, put_answer};
 use batch::format_batch;
 
-// Formats the files of a buffer of frames: the table gets three numbers a file, the output the texts in a row. The choice: the width and the
-// mode. `out` gets the refusal's number and place, or 0, the number of files and the bytes of their texts.
-pub fn rrufthim_batch_s1(
+// Formats the files of a buffer of frames: the table gets three numbers a file, the output the texts in a row. The choice: the width, the
+// mode and the rule of width. `out` gets the refusal's number and place, or 0, the number of files and the bytes of their texts.
+pub fn rrufthim_batch_s2(
     frames: &[u8],
-    choice: &[u64; 2],
+    choice: &[u64; 3],
     table: &mut [u32],
     output: &mut [u8],
     out: &mut [u64; 3],

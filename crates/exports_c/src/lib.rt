@@ -10,66 +10,67 @@ ghost use Rattle.exports.specs.Numbers.{told_newlines};
 ghost use Rattle.exports.specs.Calls.{ChecksFile, CountsFile, Lays, Renders, FormatsFile};
 ghost use Rattle.exports.specs.Generator.{WritesImage, ListsSteps};
 ghost use Rattle.exports.specs.Saves.{FormatsBatch};
+ghost use Rattle.exports.specs.Measures.{MeasuresText};
 
 #[unsafe(no_mangle)]
-pub extern "C" fn rrufthim_check_s1(source: &[u8], image: &[u8], out: &mut [u64; 4])
+pub extern "C" fn rrufthim_check_s2(source: &[u8], image: &[u8], out: &mut [u64; 4])
     ensures { ChecksFile source.now image.now out.old out.new }
 {
-    exports::rrufthim_check_s1(source, image, out);
+    exports::rrufthim_check_s2(source, image, out);
 }
 
 #[unsafe(no_mangle)]
-pub extern "C" fn rrufthim_layout_s1(
+pub extern "C" fn rrufthim_layout_s2(
     source: &[u8],
     image: &[u8],
     store: &mut [u32],
-    state: &[u64; 8],
-    args: &[u64; 3],
-    out: &mut [u64; 10],
+    state: &[u64; 9],
+    args: &[u64; 4],
+    out: &mut [u64; 11],
 )
     ensures { Lays source.now image.now store.old state.now args.now out.old store.new out.new }
 {
-    exports::rrufthim_layout_s1(source, image, store, state, args, out);
+    exports::rrufthim_layout_s2(source, image, store, state, args, out);
 }
 
 #[unsafe(no_mangle)]
-pub extern "C" fn rrufthim_render_s1(
+pub extern "C" fn rrufthim_render_s2(
     source: &[u8],
     image: &[u8],
     store: &mut [u32],
     marks: &mut [u8],
     output: &mut [u8],
-    state: &[u64; 6],
-    args: &[u64; 2],
-    out: &mut [u64; 8],
+    state: &[u64; 7],
+    args: &[u64; 3],
+    out: &mut [u64; 9],
 )
     ensures { Renders source.now image.now store.old marks.old output.old state.now args.now out.old store.new marks.new output.new out.new }
 {
-    exports::rrufthim_render_s1(source, image, store, marks, output, state, args, out);
+    exports::rrufthim_render_s2(source, image, store, marks, output, state, args, out);
 }
 
 #[unsafe(no_mangle)]
-pub extern "C" fn rrufthim_format_s1(
+pub extern "C" fn rrufthim_format_s2(
     source: &[u8],
     image: &[u8],
-    choice: &[u64; 2],
+    choice: &[u64; 3],
     output: &mut [u8],
     out: &mut [u64; 5],
 )
     ensures { FormatsFile source.now image.now choice.now output.old out.old output.new out.new }
 {
-    exports::rrufthim_format_s1(source, image, choice, output, out);
+    exports::rrufthim_format_s2(source, image, choice, output, out);
 }
 
 #[unsafe(no_mangle)]
-pub extern "C" fn rrufthim_newlines_s1(source: &[u8], start: u64, end: u64, out: &mut [u64; 2])
+pub extern "C" fn rrufthim_newlines_s2(source: &[u8], start: u64, end: u64, out: &mut [u64; 2])
     ensures { out.new ≡ sets out.old 0 (told_newlines (count_newlines source.now start end)) }
 {
-    exports::rrufthim_newlines_s1(source, start, end, out);
+    exports::rrufthim_newlines_s2(source, start, end, out);
 }
 
 #[unsafe(no_mangle)]
-pub extern "C" fn rrufthim_count_s1(
+pub extern "C" fn rrufthim_count_s2(
     source: &[u8],
     image: &[u8],
     tallies: &[u64; 8],
@@ -77,18 +78,18 @@ pub extern "C" fn rrufthim_count_s1(
 )
     ensures { CountsFile source.now image.now tallies.now out.old out.new }
 {
-    exports::rrufthim_count_s1(source, image, tallies, out);
+    exports::rrufthim_count_s2(source, image, tallies, out);
 }
 
 #[unsafe(no_mangle)]
-pub extern "C" fn rrufthim_write_s1(steps: &[u8], output: &mut [u8], out: &mut [u64; 2])
+pub extern "C" fn rrufthim_write_s2(steps: &[u8], output: &mut [u8], out: &mut [u64; 2])
     ensures { WritesImage steps.now output.old out.old output.new out.new }
 {
-    exports::generator::rrufthim_write_s1(steps, output, out);
+    exports::generator::rrufthim_write_s2(steps, output, out);
 }
 
 #[unsafe(no_mangle)]
-pub extern "C" fn rrufthim_steps_s1(
+pub extern "C" fn rrufthim_steps_s2(
     source: &[u8],
     image: &[u8],
     output: &mut [u8],
@@ -96,18 +97,25 @@ pub extern "C" fn rrufthim_steps_s1(
 )
     ensures { ListsSteps source.now image.now output.old out.old output.new out.new }
 {
-    exports::generator::rrufthim_steps_s1(source, image, output, out);
+    exports::generator::rrufthim_steps_s2(source, image, output, out);
 }
 
 #[unsafe(no_mangle)]
-pub extern "C" fn rrufthim_batch_s1(
+pub extern "C" fn rrufthim_batch_s2(
     frames: &[u8],
-    choice: &[u64; 2],
+    choice: &[u64; 3],
     table: &mut [u32],
     output: &mut [u8],
     out: &mut [u64; 3],
 )
     ensures { FormatsBatch frames.now choice.now table.old output.old out.old table.new output.new out.new }
 {
-    exports::saves::rrufthim_batch_s1(frames, choice, table, output, out);
+    exports::saves::rrufthim_batch_s2(frames, choice, table, output, out);
+}
+
+#[unsafe(no_mangle)]
+pub extern "C" fn rrufthim_columns_s2(text: &[u8], rule: u64, supplied: u64, out: &mut [u64; 2])
+    ensures { MeasuresText text.now rule supplied out.old out.new }
+{
+    exports::measures::rrufthim_columns_s2(text, rule, supplied, out);
 }

@@ -16,11 +16,12 @@ use Rattle.layout_facts.specs.Accepted.{Stands}
 use Rattle.layout_facts.specs.Accepted as limits
 use Rattle.layout_facts.proofs.Limits.{closed_within}
 use Rattle.layout_facts.proofs.Numbers.{whole_below}
-use Rattle.cut_rule.specs.Limits.{REFERENCE_WIDTH}
 use Rattle.whole_run.specs.Parts.{accepted_tree, keeps_waiting, page, renderer_of}
 use Rattle.whole_run.specs.File.{file_rows, file_marks, laid_refusal, file_refusal}
 use Rattle.whole_run.specs.FileLimits.{AreBytes}
-use Rattle.whole_run.specs.Built.{reference_choice, render_choice, built, marks_due, drawn_due}
+use Rattle.whole_run.specs.Built.{reference_choice, render_choice, built, laid, marks_due, drawn_due}
+use Rattle.whole_run.proofs.Laid.{laid_names}
+use Rattle.widths.specs.Rules.{SUPPLIED}
 use Rattle.whole_run.proofs.Past.{renders_length}
 use Rattle.whole_run.proofs.Limits.{stood}
 use Rattle.whole_run.proofs.FileTable.{laid_passed, before_marks_lem, marks_fit, text_fit}
@@ -48,17 +49,17 @@ module _ (s b : List ℕ) where
   -- as many marks as are needed
   marks_many : length (drawn_due s b reference_choice).marks ≡ marks_due s b reference_choice
   marks_many =
-      renders_length (page (render_choice reference_choice) s b) (built s b reference_choice).nodes true
+      renders_length (page (render_choice reference_choice) s b) (laid s b reference_choice) true
       (renderer_of render_fresh.pen (replicate (marks_due s b reference_choice) 0))
       ∙ length-replicate (marks_due s b reference_choice) 0
 
   -- ---- what is known of a tree that stands in its image
   module _ (at : ℕ) (a : Stands (given s b) (accepted_tree b (read_all s b)) at) where
-    laid : limits.Within (given s b) (built s b reference_choice)
-    laid = closed_within a (keeps_waiting OLD_MODE)
+    bounds : limits.Within (given s b) (built s b reference_choice)
+    bounds = closed_within a (keeps_waiting OLD_MODE)
 
     pub placed_in : (built s b reference_choice).placed ≤ length (comments_of b)
-    placed_in = laid.placed
+    placed_in = bounds.placed
 
     module _ (passes : file_refusal s b reference_choice FILE_OUTPUT ≡ None) where
       pub within : Within (figures_of s b)
@@ -70,7 +71,7 @@ module _ (s b : List ℕ) where
           let l = marks_many in
           let c = a.count in
           let p = placed_in in
-          let g = laid.numbers in
+          let g = bounds.numbers in
           record {
             bytes = omega arith;
             newlines = omega arith;
@@ -86,19 +87,20 @@ module _ (s b : List ℕ) where
         where
           cleared : (i : ℕ) → (built s b reference_choice).taken ≤ i → get_or (drawn_due s b reference_choice).marks i 0 ≡ 0
           cleared i h =
-              (renders_same i (built s b reference_choice).nodes (page (render_choice reference_choice) s b) true
+              (renders_same i (laid s b reference_choice) (page (render_choice reference_choice) s b) true
               (renderer_of render_fresh.pen (replicate (marks_due s b reference_choice) 0))
-              (whole_below (given s b) (accepted_tree b (read_all s b)) (keeps_waiting OLD_MODE) i h)).mark
+              (laid_names SUPPLIED s b i (built s b reference_choice).nodes
+              ∙ whole_below (given s b) (accepted_tree b (read_all s b)) (keeps_waiting OLD_MODE) i h)).mark
               ∙ cleared_at (marks_due s b reference_choice) i
 
       small_in : AreBytes b → Small (figures_of s b)
       small_in bytes =
           let t = text_fits passes in
           let n = occurs_few 0x0A (drawn_due s b reference_choice).text in
-          let k = file_column_limited REFERENCE_WIDTH s b (replicate (marks_due s b reference_choice) 0) reference_choice bytes (laid_passes passes) in
+          let k = file_column_limited (render_choice reference_choice) s b (replicate (marks_due s b reference_choice) 0) reference_choice bytes (laid_passes passes) in
           let c = a.count in
           let p = placed_in in
-          let g = laid.numbers in
+          let g = bounds.numbers in
           record {
             bytes = omega arith;
             newlines = omega arith;

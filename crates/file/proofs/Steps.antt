@@ -23,9 +23,10 @@ use Rattle.cut_rule.specs.States as states
 use Rattle.cut_rule.specs.Tests as tests
 use Rattle.cut_rule.specs.Rules as rules
 use Rattle.cut_rule.specs.States.{layout_fresh, render_fresh}
-use Rattle.cut_rule.specs.Parts.{with_cleared, width_line, before_marks}
+use Rattle.cut_rule.specs.Parts.{with_cleared, rule_line, width_line, before_marks}
 use Rattle.cut_rule.proofs.Answers.{LaidBy, laid_by, written_by}
 use Rattle.whole_run.specs.Parts.{parts_of, widest_drawn}
+use Rattle.whole_run.specs.Built as built_by
 use Rattle.whole_run.specs.Built.{FileChoice, layout_choice, render_choice, declared, built, rows_due, drawn_due, column_due}
 use Rattle.whole_run.specs.Demands.{rules_of, closing_at}
 use Rattle.whole_run.specs.File.{mode_line, file_rows, file_marks, file_before_rows, laid_refusal, refusal_in, file_refusal, file_result}
@@ -56,7 +57,7 @@ width_refusal = record { reason = reason.Width; place = 0 }
 pub fresh_by : {t : LayoutState}
     → (t.begun ≡ false)
     × ((t.closed ≡ false)
-    × ((t.declaration ≡ 0) × ((t.row ≡ 0) × ((t.number ≡ 0) × ((t.placed ≡ 0) × ((t.position ≡ 0) × (t.mode ≡ 0)))))))
+    × ((t.declaration ≡ 0) × ((t.row ≡ 0) × ((t.number ≡ 0) × ((t.placed ≡ 0) × ((t.position ≡ 0) × ((t.mode ≡ 0) × (t.rule ≡ 0))))))))
     → layouts.to_state t ≡ layout_fresh
 fresh_by {t} h = cc
 
@@ -64,12 +65,9 @@ module _ (s b : List ℕ) (c : FileChoice) where
   abbrev width_legal : Option Refusal
   width_legal = width_line (render_choice c) render_fresh
 
-  -- ---- 1 to 7
-  pub check_refused : (out : List ℕ) (r : Refused) → outcome (read_all s b) ≡ refused (refusal r) → Formats s b c out (Err r) out
-  check_refused out r e =
-      let first_one : first (file_before_rows s b c) ≡ Some (refusal r) =
-      ap (λ (x : Option Refusal). first (x ∷ mode_line c ∷ width_legal ∷ [])) (sym (read_refusal_lem (read_all s b)) ∙ ap refusal_of e)
-      in
+  -- ---- refused by the first lines
+  stops_first : (out : List ℕ) (r : Refused) → first (file_before_rows s b c) ≡ Some (refusal r) → Formats s b c out (Err r) out
+  stops_first out r first_one =
       let t : file_refusal s b c (length out) ≡ Some (refusal r) =
       stops_whole s b c (refusal r) file_rows file_marks (length out) (stops_laid s b c (refusal r) file_rows first_one)
       in
@@ -78,8 +76,19 @@ module _ (s b : List ℕ) (c : FileChoice) where
         output_left_of = sym (ap (λ (x : Option Refusal). unless x out (write_front (drawn_due s b c).text out)) t);
       }
 
+  -- 20
+  pub rule_refused : (out : List ℕ) (r : Refused) → Some (refusal r) ≡ rule_line c.rule → Formats s b c out (Err r) out
+  rule_refused out r e =
+      stops_first out r (ap (λ (x : Option Refusal). first (x ∷ read_refusal (read_all s b) ∷ mode_line c ∷ width_legal ∷ [])) (sym e))
+
+  -- 1 to 7
+  pub check_refused : rule_line c.rule ≡ None → (out : List ℕ) (r : Refused) → outcome (read_all s b) ≡ refused (refusal r) → Formats s b c out (Err r) out
+  check_refused ruled out r e =
+      let unread : read_refusal (read_all s b) ≡ Some (refusal r) = sym (read_refusal_lem (read_all s b)) ∙ ap refusal_of e in
+      stops_first out r (λ i. first (ruled i ∷ unread i ∷ mode_line c ∷ width_legal ∷ []))
+
   -- ---- then what is chosen, line by line
-  module _ {d : Document} (a : Accepts s b d) where
+  module _ {d : Document} (a : Accepts s b d) (ruled : rule_line c.rule ≡ None) where
     read : read_refusal (read_all s b) ≡ None
     read = sym (read_refusal_lem (read_all s b)) ∙ ap refusal_of a.answer
 
@@ -87,7 +96,7 @@ module _ (s b : List ℕ) (c : FileChoice) where
     pub mode_refused : states.NEW_MODE < c.mode → first (file_before_rows s b c) ≡ Some (refusal mode_refusal)
     mode_refused h =
         let over : mode_line c ≡ Some (refusal mode_refusal) = rw (lt-ltb states.NEW_MODE c.mode h) in
-        λ i. first (read i ∷ over i ∷ width_legal ∷ [])
+        λ i. first (ruled i ∷ read i ∷ over i ∷ width_legal ∷ [])
 
     module _ (mode : c.mode ≤ states.NEW_MODE) (x : Bool) (fits : x ≡ not (any (tests.width_tests c.width 0))) where
       moded : mode_line c ≡ None
@@ -97,13 +106,13 @@ module _ (s b : List ℕ) (c : FileChoice) where
       pub width_refused : not x ≡ true → first (file_before_rows s b c) ≡ Some (refusal width_refusal)
       width_refused h =
           let t : any (tests.width_tests c.width 0) ≡ true = not-false (any (tests.width_tests c.width 0)) (sym fits ∙ not-true x h) in
-          λ i. first (read i ∷ moded i ∷ refuse_if (t i) 15 0 ∷ [])
+          λ i. first (ruled i ∷ read i ∷ moded i ∷ refuse_if (t i) 15 0 ∷ [])
 
       -- neither
       pub choice_passes : not x ≡ false → first (file_before_rows s b c) ≡ None
       choice_passes h =
           let t : any (tests.width_tests c.width 0) ≡ false = not-true (any (tests.width_tests c.width 0)) (sym fits ∙ not-false x h) in
-          λ i. first (read i ∷ moded i ∷ refuse_if (t i) 15 0 ∷ [])
+          λ i. first (ruled i ∷ read i ∷ moded i ∷ refuse_if (t i) 15 0 ∷ [])
 
   -- ---- the two calls
   module _ (store marks out : List ℕ) where
@@ -130,7 +139,7 @@ module _ (s b : List ℕ) (c : FileChoice) where
     pub before_layout : (why : Refused) → first (file_before_rows s b c) ≡ Some (refusal why) → RunsFile s b c store marks out (Err why) store marks out
     before_layout why e =
         let r = stops_laid s b c (refusal why) (tests.rows_in store) e in
-        laid_refused why store r (sym (ap (λ (y : Option Refusal). unless y store (write_front (rows (built s b c).nodes 0) store)) r))
+        laid_refused why store r (sym (ap (λ (y : Option Refusal). unless y store (write_front (rows (built_by.laid s b c) 0) store)) r))
 
     -- ---- the layout call, where none of these lines refuses
     module _ (passed : first (file_before_rows s b c) ≡ None) (state : LayoutState) (q : LayoutArgs) (r : Result Laid Refused) (store2 : List ℕ)
@@ -160,9 +169,9 @@ module _ (s b : List ℕ) (c : FileChoice) where
         to_row : t.state.row ≡ rows_due s b c
         to_row = ap (λ (x : states.LayoutState). x.cursor.row) laid_out_lem.state
 
-        -- up to a row, at the width
+        -- up to a row, at the width, by the rule
         abbrev to : ℕ → RenderArgs
-        to row = record { stop = row; width = record { 0 = c.width } }
+        to row = record { stop = row; width = record { 0 = c.width }; rule = c.rule }
 
         -- what the call had is what is due
         same : {A : Type 0} (f : states.RenderState → RenderArgs → List ℕ → A)

@@ -17,7 +17,7 @@ use Rattle.file.specs.declared.Run.{Run}
 
 -- "other entries over whole files take their caller's choice"
 abbrev pub to_choice : FileChoice → plain.FileChoice
-to_choice c = record { width = c.width.0; mode = c.mode }
+to_choice c = record { width = c.width.0; mode = c.mode; rule = c.rule }
 
 -- An answer: the bytes written, the comments left, the rows and the group numbers; "Number and place are all that comes back."
 abbrev pub to_result : Text → FileResult

@@ -3,13 +3,15 @@
 
 pub mod reply;
 
-ghost use Rattle.std.specs.Prelude.{◌≡◌, ◌*◌, replicate};
+ghost use Rattle.std.specs.Prelude.{◌≡◌, ◌*◌, None, replicate};
 ghost use Rattle.rows.specs.Places.{PLACES};
 ghost use Rattle.cut_rule.specs.States.{render_fresh};
+ghost use Rattle.cut_rule.specs.Parts.{rule_line};
 ghost use Rattle.whole_run.specs.File.{file_rows, file_marks};
 ghost use Rattle.render_call.specs.Calls.{to_state as rendered_state};
 ghost use Rattle.file.specs.Whole.{to_choice, RunsFile, Formats, FormatsFrame};
 
+use choices::rule_chosen;
 use image::bytes::num32;
 use layout_call::accepted::Accepted;
 use layout_call::modes::{NEW_MODE, OLD_MODE};
@@ -21,6 +23,7 @@ use render_call::width::width_fits;
 use render_call::{RenderArgs, RenderState};
 use rows::places::PLACES;
 use rows::units::{Bytes, Columns};
+use widths::rules::SUPPLIED;
 
 // The longest frame that the program takes.
 const MAX_FRAME: usize = 32768;
@@ -35,17 +38,19 @@ pub const MARKS: usize = 1800;
 // `max` of fmt.rs: the width that the program and the report choose.
 pub const REFERENCE_WIDTH: usize = 80;
 
-/// What a caller chooses: the width, and whether the comments that wait at the end are kept.
+/// What a caller chooses: the width, whether the comments that wait at the end are kept, and the rule that texts are measured by.
 #[derive(Clone, Copy, Debug, PartialEq, Eq)]
 pub struct FileChoice {
     pub width: Columns,
     pub mode: usize,
+    pub rule: usize,
 }
 
 /// What the program and the report choose.
 pub const REFERENCE_CHOICE: FileChoice = FileChoice {
     width: Columns(REFERENCE_WIDTH),
     mode: OLD_MODE,
+    rule: SUPPLIED,
 };
 
 /// What a file that is accepted gives: the bytes written, the comments left, the rows and the group numbers.
@@ -94,6 +99,7 @@ pub fn run_file(
     out: &mut [u8],
     choice: FileChoice,
 ) -> Result<Run, Refused>
+    requires { rule_line choice.rule ≡ None }
     ensures { RunsFile file.entry.parsed.source.now file.entry.parsed.image.now (to_choice choice)
         store.old marks.old out.old result store.new marks.new out.new }
 {
@@ -107,6 +113,7 @@ pub fn run_file(
         stop: count_declarations(file),
         close: true,
         mode: choice.mode,
+        rule: choice.rule,
     };
     let laid = layout_accepted(file, store, LayoutState::default(), all)?;
     // kept: field by field: a `Call` of rendering takes any source and image, as C lends them, and no `Accepted`.
@@ -117,6 +124,7 @@ pub fn run_file(
         args: RenderArgs {
             stop: laid.state.row,
             width: choice.width,
+            rule: choice.rule,
         },
     };
     let drawn = call.render_checked(store, marks, out)?;
@@ -133,6 +141,7 @@ pub fn run_file(
 
 // A file that is accepted, with rows and marks of its own: the rows of a file that 9 or 10 refuses can't be taken back out of a lent store.
 fn format_accepted(file: Accepted<'_>, out: &mut [u8], choice: FileChoice) -> Result<Text, Refused>
+    requires { rule_line choice.rule ≡ None }
     ensures { Formats file.entry.parsed.source.now file.entry.parsed.image.now (to_choice choice) out.old result out.new }
 {
     let mut store = rows();
@@ -150,6 +159,7 @@ pub fn format_file(
 ) -> Result<Text, Refused>
     ensures { Formats source.now image.now (to_choice choice) out.old result out.new }
 {
+    rule_chosen(choice.rule)?;
     let file = Accepted::check(source, image)?;
     format_accepted(file, out, choice)
 }

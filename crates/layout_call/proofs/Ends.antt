@@ -1,4 +1,4 @@
--- A layout call by its ends: source or image refused, state refused, too few rows, laid.
+-- A layout call by its ends: rule refused, source or image refused, state refused, too few rows, laid.
 -- Assumes nothing.
 use mathlib.Core.Path.{◌≡◌, refl, sym, ap, ap₂, ◌∙◌}
 use mathlib.Core.Bool.{Bool, true, false, not, cond}
@@ -7,12 +7,14 @@ use mathlib.Core.List.{List, [], ◌∷◌}
 use Prim.Native.Nat.{ℕ, ◌+◌, ◌-◌, ◌*◌, ◌≤◌}
 use native.Mathlib.Omega.{arith}
 use lib.ListN.{length, take, drop}
+use lib.Seq.{sets, length-sets}
 use lib.Dec.{ltb, eqb}
 use borrow.Author.Tests.{le-ltb, ltb-false, not-true, not-false}
 use Rattle.rows.specs.Places.{PLACES}
 use Rattle.image.specs.Read.{read_all, read_refusal, Accepts}
 use Rattle.image.specs.declared.Document.{Document}
 use Rattle.image.proofs.Answers.{read_refusal_lem}
+use Rattle.rows.specs.Node.{Nodes}
 use Rattle.rows.specs.Rows.{sizes, rows}
 use Rattle.rows.proofs.Sizes.{length_rows}
 use Rattle.acts.specs.Act.{Act}
@@ -28,13 +30,17 @@ use Rattle.refusals.proofs.Groups.{refuses_left, left_to}
 use Rattle.cut_rule.specs.Run.{write_at, CallResult, laid_out}
 use Rattle.cut_rule.specs.States as states
 use Rattle.cut_rule.specs.Tests.{rows_in, layout_tests_in}
-use Rattle.cut_rule.specs.Parts.{Piece, layout_tests, before_rows, rows_line, layout_table, rows_needed, call_piece, laid_of}
+use Rattle.cut_rule.specs.Parts.{Piece, rule_line, layout_tests, before_rows, rows_line, layout_table, rows_needed, call_piece, laid_of}
 use Rattle.cut_rule.proofs.Memory.{write_sets}
 use Rattle.cut_rule.proofs.Table.{LayoutFits, layout_fits}
 use Rattle.whole_run.specs.Parts.{keeps_waiting, parts_of, act_piece}
 use Rattle.whole_run.specs.Demands.{rules_of}
 use Rattle.whole_run.specs.Built.{tree, declared}
 use Rattle.whole_run.proofs.Whole.{call_piece_lem}
+use Rattle.whole_run.proofs.Laid.{laid_size}
+use Rattle.node_widths.specs.Summed.{str_columns, laid_nodes}
+use Rattle.row_widths.specs.Passes.{pass, row_summed}
+use Rattle.row_widths.proofs.Summing.{summed_rows}
 use Rattle.layout_call.specs.Calls.{to_state, to_args, laying_answer}
 use Rattle.layout_call.specs.Whole.{LayoutCalled}
 use Rattle.layout_call.specs.Steps.{Goes, StateFits, Roomy, from_of, missing, call_act}
@@ -65,8 +71,12 @@ module _ (s b : List ℕ) (state : LayoutState) (q : LayoutArgs) (store : List �
   needed = rows_needed (parts_of s b) (to_args q) (to_state state)
 
   -- the lines before 8, and 8 where these let pass
-  before_by : (o : Option Refusal) (t : Bool) → read_refusal (read_all s b) ≡ o → unfit ≡ t → first before ≡ first (o ∷ refuse_if t 12 0 ∷ [])
-  before_by o t e f = ap₂ (λ (x : Option Refusal) (y : Bool). first (x ∷ refuse_if y 12 0 ∷ [])) e f
+  before_from : (o : Option Refusal) → rule_line q.rule ≡ o → first before ≡ first (o ∷ read_refusal (read_all s b) ∷ refuse_if unfit 12 0 ∷ [])
+  before_from o e = ap (λ (x : Option Refusal). first (x ∷ read_refusal (read_all s b) ∷ refuse_if unfit 12 0 ∷ [])) e
+
+  before_by : (o : Option Refusal) (t : Bool) → rule_line q.rule ≡ None → read_refusal (read_all s b) ≡ o → unfit ≡ t
+      → first before ≡ first (o ∷ refuse_if t 12 0 ∷ [])
+  before_by o t g e f = before_from None g ∙ ap₂ (λ (x : Option Refusal) (y : Bool). first (x ∷ refuse_if y 12 0 ∷ [])) e f
 
   rows_by : (u : Bool) (n : ℕ) → first before ≡ None → needed ≡ n → ltb (rows_in store) n ≡ u → table ≡ first (refuse_if u 8 n ∷ [])
   rows_by u n e g h =
@@ -88,24 +98,24 @@ module _ (s b : List ℕ) (state : LayoutState) (q : LayoutArgs) (store : List �
     fits_told x declarations e f = rw (sym e, comments_count a) f
 
     -- so, by what it answers, 12 refuses the state or lets it pass
-    pub fits_unless : (x : Bool) (declarations : ℕ) → declarations ≡ length (declared s b)
+    pub fits_unless : rule_line q.rule ≡ None → (x : Bool) (declarations : ℕ) → declarations ≡ length (declared s b)
         → x ≡ not (any (layout_tests_in declarations d.comments (length s) (rows_in store) (to_args q) (to_state state))) → x ≡ true
         → StateFits s b state q store
-    fits_unless x declarations e f h = record { tested = not-true unfit (sym (fits_told x declarations e f) ∙ h) }
+    fits_unless g x declarations e f h = record { chosen = g; tested = not-true unfit (sym (fits_told x declarations e f) ∙ h) }
 
     reads : read_refusal (read_all s b) ≡ None
     reads = sym (read_refusal_lem (read_all s b)) ∙ ap refusal_of a.answer
 
     -- 12
-    pub ends_unfit : (x : Bool) (declarations : ℕ) → declarations ≡ length (declared s b)
+    pub ends_unfit : rule_line q.rule ≡ None → (x : Bool) (declarations : ℕ) → declarations ≡ length (declared s b)
         → x ≡ not (any (layout_tests_in declarations d.comments (length s) (rows_in store) (to_args q) (to_state state))) → x ≡ false
         → LayoutCalled s b state q store (Err (record { reason = reason.State; place = 0 })) store
-    ends_unfit x declarations e f h =
-        refused_by _ _ (refuses_left _ before behind (before_by None true reads (not-false unfit (sym (fits_told x declarations e f) ∙ h)))) refl
+    ends_unfit g x declarations e f h =
+        refused_by _ _ (refuses_left _ before behind (before_by None true g reads (not-false unfit (sym (fits_told x declarations e f) ∙ h)))) refl
 
     module _ (fits : StateFits s b state q store) where
       passes : first before ≡ None
-      passes = before_by None false reads fits.tested
+      passes = before_by None false fits.chosen reads fits.tested
 
       told : LayoutFits (length (declared s b)) (length (comments_of b)) (length s) (rows_in store) (to_args q) (to_state state)
       told = layout_fits (length (declared s b)) (length (comments_of b)) (length s) (rows_in store) (to_args q) (to_state state) fits.tested
@@ -134,7 +144,7 @@ module _ (s b : List ℕ) (state : LayoutState) (q : LayoutArgs) (store : List �
       abbrev from : Cursor
       from = from_of state
 
-      due : call_piece (parts_of s b) (to_state state) (to_args q) ≡ act_piece act (to_state state).cursor
+      due : call_piece (parts_of s b) (to_state state) (to_args q) ≡ act_piece q.rule s b act (to_state state).cursor
       due = call_piece_lem (read_all s b) s b (to_state state) (to_args q) ahead within
 
       pub needed_is : needed ≡ state.row + sizes (act (st from)).nodes
@@ -175,34 +185,58 @@ module _ (s b : List ℕ) (state : LayoutState) (q : LayoutArgs) (store : List �
         none_left : table ≡ None
         none_left = rows_by false needed passes refl (le-ltb (rows_in store) needed roomy.fits)
 
-        stored : store2 ≡ write_at (PLACES * state.row) gives.rows store
+        abbrev ns : Nodes
+        ns = (act (st from)).nodes
+
+        room : (state.row + sizes ns) * PLACES ≤ length store
+        room = omega (arith, needed_is, roomy.fits)
+
+        -- the rows that were laid, and the sums that are put into them
+        rows_laid : e.row ≡ state.row + sizes ns
+        rows_laid = ap (λ (c : Cursor). c.row) laid.moved
+
+        pub sums_within : e.row * PLACES ≤ length store2
+        sums_within =
+            let l = length-sets store (PLACES * state.row) (rows ns state.row) in
+            omega (arith, ap length laid.stored, rows_laid, room)
+
+        abbrev sums : List ℕ
+        sums = pass (row_summed (str_columns q.rule s b)) (e.row - state.row) store2 state.row
+
+        summed : sums ≡ sets store (PLACES * state.row) (rows (laid_nodes q.rule s b ns) state.row)
+        summed =
+            ap₂ (λ (n : ℕ) (l : List ℕ). pass (row_summed (str_columns q.rule s b)) n l state.row) (omega (arith, rows_laid)) laid.stored
+            ∙ summed_rows (str_columns q.rule s b) ns store state.row room
+
+        stored : sums ≡ write_at (PLACES * state.row) gives.rows store
         stored =
-            laid.stored
-            ∙ sym (write_sets (PLACES * state.row) (rows (act (st from)).nodes state.row) store
-            (let l = length_rows (act (st from)).nodes state.row in omega (arith, needed_is, roomy.fits)))
+            summed
+            ∙ sym (write_sets (PLACES * state.row) (rows (laid_nodes q.rule s b ns) state.row) store
+            (let l = length_rows (laid_nodes q.rule s b ns) state.row in omega (arith, laid_size q.rule s b ns, room)))
             ∙ ap (λ (p : Piece). write_at (PLACES * state.row) p.rows store) (sym due)
 
-        pub ends_laid : (t : LayoutState) (left : ℕ) → t.begun ≡ true → t.closed ≡ q.close → t.declaration ≡ q.stop → t.row ≡ e.row
+        pub ends_laid : (store3 : List ℕ) → store3 ≡ sums → (t : LayoutState) (left : ℕ) → t.begun ≡ true → t.closed ≡ q.close → t.declaration ≡ q.stop → t.row ≡ e.row
             → t.number ≡ e.number
             → t.placed ≡ e.placed
             → t.position ≡ e.pos
             → t.mode ≡ q.mode
+            → t.rule ≡ q.rule
             → left ≡ d.comments - e.placed
-            → LayoutCalled s b state q store (Ok (record { state = t; left = left })) store2
-        ends_laid t left q1 q2 q3 q4 q5 q6 q7 q8 q9 =
+            → LayoutCalled s b state q store (Ok (record { state = t; left = left })) store3
+        ends_laid store3 summed_as t left q1 q2 q3 q4 q5 q6 q7 q8 q9 q10 =
             record {
               answer =
                   (λ i. accepted (laid_out (same_state i) (same_left i)))
                   ∙ ap (λ (z : Option Refusal). answer_by {A = CallResult (rules_of s b)} z (laid_out gives.state gives.left)) (sym none_left);
-              store_left_of = stored ∙ ap (λ (z : Option Refusal). unless z store (write_at (PLACES * state.row) gives.rows store)) (sym none_left);
+              store_left_of = summed_as ∙ stored ∙ ap (λ (z : Option Refusal). unless z store (write_at (PLACES * state.row) gives.rows store)) (sym none_left);
             }
           where
             same_state : to_state t ≡ gives.state
             same_state =
-                rw (q1, q2, q3, q4, q5, q6, q7, q8, laid.moved)
-                (ap (λ (p : Piece). record { begun = true; closed = q.close; declaration = q.stop; cursor = p.cursor; mode = q.mode }) (sym due))
+                rw (q1, q2, q3, q4, q5, q6, q7, q8, q9, laid.moved)
+                (ap (λ (p : Piece). record { begun = true; closed = q.close; declaration = q.stop; cursor = p.cursor; mode = q.mode; rule = q.rule }) (sym due))
 
             same_left : left ≡ gives.left
             same_left =
-                rw (q9, laid.moved)
+                rw (q10, laid.moved)
                 (ap₂ (λ (m k : ℕ). m - k) (sym (comments_count a)) (ap (λ (p : Piece). p.cursor.placed) (sym due)))

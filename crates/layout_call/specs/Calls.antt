@@ -11,7 +11,7 @@ use Rattle.layout_call.specs.declared.LayoutState.{LayoutState}
 use Rattle.layout_call.specs.declared.LayoutArgs.{LayoutArgs}
 use Rattle.layout_call.specs.declared.Laid.{Laid}
 
--- "Layout state: begun, closed, next declaration, next row, next number, comments placed, position", and the mode
+-- "Layout state: begun, closed, next declaration, next row, next number, comments placed, position", the mode, and the rule of width
 abbrev pub to_state : LayoutState → states.LayoutState
 to_state s = record {
   begun = s.begun;
@@ -19,11 +19,12 @@ to_state s = record {
   declaration = s.declaration;
   cursor = record { row = s.row; number = s.number; placed = s.placed; position = s.position };
   mode = s.mode;
+  rule = s.rule;
 }
 
--- "A layout call names the declaration to stop before and whether to close", and the mode
+-- "A layout call names the declaration to stop before and whether to close", the mode, and the rule
 abbrev pub to_args : LayoutArgs → cut.LayoutArgs states.LayoutChoice
-to_args q = record { stop = q.stop; close = q.close; choice = record { mode = q.mode } }
+to_args q = record { stop = q.stop; close = q.close; choice = record { mode = q.mode; rule = q.rule } }
 
 -- A call's answer: "the new state with the number of comments left"; "Number and place are all that comes back."
 abbrev pub laying_answer : (s b : List ℕ) → Result Laid Refused → Answer (CallResult (rules_of s b))

@@ -11,7 +11,7 @@ use Rattle.layout.specs.Closing.{call_rule}
 use Rattle.acts.specs.declared.Cursor.{Cursor}
 use Rattle.refusals.specs.Refusals.{any}
 use Rattle.cut_rule.specs.Tests.{rows_in}
-use Rattle.cut_rule.specs.Parts.{layout_tests, rows_needed}
+use Rattle.cut_rule.specs.Parts.{rule_line, layout_tests, rows_needed}
 use Rattle.whole_run.specs.Parts.{keeps_waiting, parts_of}
 use Rattle.whole_run.specs.Built.{tree, declared}
 use Rattle.layout_call.specs.Calls.{to_state, to_args}
@@ -46,8 +46,9 @@ pub record Goes (s b : List ℕ) (d : Document) (state : LayoutState) (q : Layou
 abbrev pub missing : ℕ → ℕ → Option ℕ
 missing rows needed = cond (ltb rows needed) (Some needed) None
 
--- 12 does not refuse
+-- 20 and 12 do not refuse
 pub record StateFits (s b : List ℕ) (state : LayoutState) (q : LayoutArgs) (store : List ℕ) : Type 0 where
+  pub chosen : rule_line q.rule ≡ None
   pub tested : any (layout_tests (parts_of s b) (to_args q) (to_state state) store) ≡ false
 
 -- 8 does not refuse

@@ -7,6 +7,7 @@ ghost use Rattle.layout_call.specs.ByCall.{of_call};
 use crate::call::Call;
 use crate::{Laid, LayoutState};
 use acts::Cursor;
+use row_widths::lay::sum_by;
 
 impl Call<'_> {
     // Where the call starts.
@@ -21,13 +22,22 @@ impl Call<'_> {
         }
     }
 
-    // Lays what is due, in a store that has room for it.
+    // Lays what is due, in a store that has room for it, with the sums of the rule in the rows of texts.
     pub(crate) fn laid(&self, store: &mut [u32]) -> Laid
         requires fits { of_call StateFits self.now store.old }
         requires room { of_call Roomy self.now store.old }
         ensures { of_call LayoutCalled self.now store.old (Ok result) store.new }
     {
         let e = self.lay_all(store);
+        let file = self.file.parsed;
+        sum_by(
+            store,
+            file.source,
+            file.image,
+            self.state.row,
+            e.row as usize,
+            self.args.rule,
+        );
         let placed = e.placed as usize;
         Laid {
             state: LayoutState {
@@ -39,6 +49,7 @@ impl Call<'_> {
                 placed,
                 position: e.pos as usize,
                 mode: self.args.mode,
+                rule: self.args.rule,
             },
             left: self.file.doc.comments - placed,
         }

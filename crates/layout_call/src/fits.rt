@@ -1,12 +1,13 @@
 // Refusal 12, as far as it is of layout: a function for each group of tests.
-ghost use Rattle.std.specs.Prelude.{◌≡◌, not};
+ghost use Rattle.std.specs.Prelude.{◌≡◌, not, ◌++◌};
 ghost use Rattle.refusals.specs.Refusals.{any};
-ghost use Rattle.cut_rule.specs.Tests.{places_tests, limit_tests, begun_tests, stop_tests, mode_tests, layout_tests_in};
+ghost use Rattle.cut_rule.specs.Tests.{places_tests, limit_tests, begun_tests, stop_tests, mode_tests, rule_tests, layout_tests_in};
 ghost use Rattle.layout_call.specs.Calls.{to_state, to_args};
 ghost use Rattle.layout_call.specs.Within.{within_tests};
 
 use crate::modes::NEW_MODE;
 use crate::{LayoutArgs, LayoutState};
+use choices::rule_fits;
 use rows::limits::{MAX_NUMBER, MAX_ROWS};
 
 // What a state may be within: how many declarations, comments, bytes of the source and rows of the store there are.
@@ -59,6 +60,13 @@ fn mode_fits(state: LayoutState, args: LayoutArgs) -> bool
     args.mode <= NEW_MODE && (!state.begun || args.mode == state.mode)
 }
 
+// Whether what the call chooses is what the state carries.
+fn choice_fits(state: LayoutState, args: LayoutArgs) -> bool
+    ensures { result ≡ not (any (mode_tests (to_args args).choice (to_state state) ++ rule_tests args.rule state.rule)) }
+{
+    mode_fits(state, args) && rule_fits(args.rule, state.rule)
+}
+
 // Whether the state is one that this call may have.
 pub(crate) fn state_fits(state: LayoutState, args: LayoutArgs, within: Within) -> bool
     ensures { result ≡ not (any (within_tests layout_tests_in within (to_args args) (to_state state))) }
@@ -67,5 +75,5 @@ pub(crate) fn state_fits(state: LayoutState, args: LayoutArgs, within: Within) -
         && limits_fit(state)
         && begins_fresh(state)
         && stop_fits(state, args, within.declarations)
-        && mode_fits(state, args)
+        && choice_fits(state, args)
 }

@@ -10,6 +10,8 @@ pub mod modes;
 mod room;
 pub mod steps;
 
+ghost use Rattle.std.specs.Prelude.{◌≡◌, None};
+ghost use Rattle.cut_rule.specs.Parts.{rule_line};
 ghost use Rattle.layout_call.specs.Whole.{LayoutCalled};
 ghost use Rattle.layout_call.specs.ByFile.{of_file};
 
@@ -17,10 +19,11 @@ use crate::accepted::Accepted;
 use crate::call::Call;
 use crate::fits::{Within, state_fits};
 use crate::steps::count_declarations;
+use choices::rule_chosen;
 use refusals::{Reason, Refused};
 use rows::places::PLACES;
 
-// Begun, closed, next declaration, next row, next number, comments placed, position, mode.
+// Begun, closed, next declaration, next row, next number, comments placed, position, mode, rule of width (0: none yet).
 // kept: numbers of 64 bits, and no `Cursor` of acts, whose numbers are of 32: C lends any, and 12 refuses what is too large.
 #[derive(Clone, Copy, Debug, Default, PartialEq, Eq)]
 pub struct LayoutState {
@@ -32,14 +35,16 @@ pub struct LayoutState {
     pub placed: usize,
     pub position: usize,
     pub mode: usize,
+    pub rule: usize,
 }
 
-// The declaration to stop before, whether to close, and the mode (modes.rt).
+// The declaration to stop before, whether to close, the mode (modes.rt), and the rule of width.
 #[derive(Clone, Copy, Debug, PartialEq, Eq)]
 pub struct LayoutArgs {
     pub stop: usize,
     pub close: bool,
     pub mode: usize,
+    pub rule: usize,
 }
 
 /// What an accepted call gives: the new state, and the comments left.
@@ -49,13 +54,14 @@ pub struct Laid {
     pub left: usize,
 }
 
-/// A call on a source and an image that are accepted.
+/// A call on a source and an image that are accepted, by a rule that 20 does not refuse.
 pub fn layout_accepted(
     file: Accepted<'_>,
     store: &mut [u32],
     state: LayoutState,
     args: LayoutArgs,
 ) -> Result<Laid, Refused>
+    requires { rule_line args.rule ≡ None }
     ensures { of_file LayoutCalled file.entry state args store.old result store.new }
 {
     let within = Within {
@@ -84,6 +90,7 @@ pub fn layout_call(
 ) -> Result<Laid, Refused>
     ensures { LayoutCalled source.now image.now state args store.old result store.new }
 {
+    rule_chosen(args.rule)?;
     let file = Accepted::check(source, image)?;
     layout_accepted(file, store, state, args)
 }

@@ -7,6 +7,8 @@ use mathlib.Core.List.{List, [], ◌∷◌}
 use Rattle.std.specs.Prelude.{Option, None as nothing, Some}
 use native.Mathlib.Omega.{arith}
 use lib.ListN.{length}
+use Rattle.text.proofs.Counts.{range_start}
+use Rattle.text.proofs.Cuts.{uncut}
 use Rattle.text.proofs.Trims.{trim_before}
 use Rattle.ast.specs.Syntax.{Span, Ident, Idents, no_types, ◌∷ᵗ◌, Fields, Variants, no_variants, variant, Declaration, filter_map, const, record_decl}
 use Rattle.ast.specs.Syntax.{enum_decl, function, test, import_decl, SyntaxTree}
@@ -23,8 +25,9 @@ use Rattle.layout.specs.Closing.{closing, whole_rule}
 use Rattle.layout_facts.specs.Height.{fields_height, variants_height, declaration_height, declarations_height, tree_height}
 use Rattle.layout_facts.proofs.Steps.{◌⨾◌, fewer, sound_skip, sound_line, sound_empty_line, sound_str, sound_when, sound_asks}
 use Rattle.layout_facts.proofs.Gaps.{sound_gap}
-use Rattle.layout_facts.proofs.Parts.{no_word, sound_says, ranged, from_start, supplied, sound_ident, points, All, none, also, sound_separated}
-use Rattle.layout_facts.proofs.Parts.{sound_idents, sound_type, all_types, all_fields, last_ranged, import_ranged, import_long, sound_import}
+use Rattle.layout_facts.proofs.Parts.{no_word, sound_says, ranged, from_start, supplied, sound_ident, points, All, none}
+use Rattle.layout_facts.proofs.Parts.{also, sound_separated, sound_idents, sound_type, ident_range, shebang_formed}
+use Rattle.layout_facts.proofs.Parts.{all_types, all_fields, last_ranged, import_ranged, import_long, sound_import}
 use Rattle.layout_facts.proofs.Exprs.{sound_expr, sound_block}
 
 module _ {g : Given} (commented : Commented g) where
@@ -183,6 +186,8 @@ module _ {g : Given} (commented : Commented g) where
         origin = omega arith;
         fits = omega (arith, trim_before g.image i.start (i.start + i.size), a.ends, a.head.fits);
         due = no_word (omega arith);
+        formed = shebang_formed a;
+        uncut = uncut _ _ (range_start _ _ _ (ident_range a));
       })
       (supplied _ a)
       ⨾ sound_empty_line

@@ -11,6 +11,8 @@ use native.Mathlib.Omega.{arith}
 use lib.ListN.{length, get_or}
 use lib.Dec.{ltb, eqb}
 use Rattle.laws.proofs.Booleans.{and_left, and_right}
+use Rattle.text.proofs.Counts.{range_start}
+use Rattle.text.proofs.Cuts.{uncut}
 use Rattle.image.specs.Bytes.{be32}
 use Rattle.ast.specs.Syntax.{Span, Expr, expr, Form, return', literal, block, match', function_call, access, path, record', typed_record, list, not'}
 use Rattle.ast.specs.Syntax.{assign, compound_assign, bin_op, negate, if_else, while, for, question_mark, f_string, parentheses, Exprs, no_exprs, ◌∷ᵉ◌}
@@ -33,8 +35,8 @@ use Rattle.layout_facts.specs.Height.{maybe_block_height, stmts_height, stmt_hei
 use Rattle.layout_facts.proofs.Steps.{◌⨾◌, deeper, fewer, sound_skip, sound_line, sound_line_or_space, sound_wrap_parent, sound_ascii, sound_when}
 use Rattle.layout_facts.proofs.Steps.{sound_cond, sound_grouped, sound_indented, sound_indented_next, sound_called, sound_asks}
 use Rattle.layout_facts.proofs.Gaps.{sound_gap, sound_trailing}
-use Rattle.layout_facts.proofs.Parts.{Fits, no_word, sound_says, ranged, from_start, sound_ident, points, points_most, points_left}
-use Rattle.layout_facts.proofs.Parts.{leaving, All, none, also, sound_separated, sound_path, sound_type, sound_import, sound_pattern}
+use Rattle.layout_facts.proofs.Parts.{Fits, no_word, sound_says, ranged, from_start, sound_ident, points, points_most, points_left, leaving}
+use Rattle.layout_facts.proofs.Parts.{All, none, also, sound_separated, sound_path, sound_type, range_formed, sound_import, sound_pattern}
 
 -- ---- the words chosen by a number: each of a list fits, and so does the one that stands for none
 abbrev all_fit : List String → Bool
@@ -74,7 +76,15 @@ module _ {g : Given} (commented : Commented g) where
     under : (p : ℕ) → SoundOperands n d (operand p)
 
   sound_content : {d : ℕ} {p : Span} → Ranged g.source p → Sounds g ROW_TAKES d (push (ascii (content p)))
-  sound_content r = sound_ascii (record { origin = omega arith; fits = omega (arith, r.ordered, r.fits); due = no_word (omega arith) })
+  sound_content {p = p} r =
+      sound_ascii
+      (record {
+        origin = omega arith;
+        fits = omega (arith, r.ordered, r.fits);
+        due = no_word (omega arith);
+        formed = range_formed g.source p.start p.end commented.formed r.range;
+        uncut = uncut g.source p.start (range_start g.source p.start p.end r.range);
+      })
 
   sound_operator : {d : ℕ} (first : Bool) (s : Span) (op : ℕ) → s.start ≤ length g.source → Sounds g (3 * ROW_TAKES) d (operator g first s op)
   unfolding operator among

@@ -26,7 +26,6 @@ use Rattle.layout_facts.specs.Foot.{AtFoot, ClosingLeavesNone, NewlinesDropped, 
 use Rattle.layout_facts.proofs.Placing.{places_skip}
 use Rattle.layout_facts.proofs.InOrder.{places_shebang, places_declarations}
 use Rattle.layout_facts.proofs.Gaps.{before_free}
-use Rattle.layout_facts.proofs.Limits.{commented}
 
 none_past : {A : Type 0} (xs : List A) (k : ℕ) → nth xs k ≡ nothing → length xs ≤ k
 unfolding nth
@@ -49,7 +48,7 @@ module _ {s b : List ℕ} (list : Listed s b) where
 
   one_placed : (leading : Bool) (c : Span) (z : St) → (pop_comment g leading c z).placed ≡ z.placed + 1
   unfolding pop_comment ◌⨟◌
-  one_placed leading c z = (before_free (commented list) leading c.start (next z (pop z))).placed
+  one_placed leading c z = (before_free g leading c.start (next z (pop z))).placed
 
   -- a loop with a turn for each comment that waits
   all_popped : (n : ℕ) (leading : Bool) (z : St) → z.placed ≤ length (comments_of b) → length (comments_of b) ≤ n + z.placed

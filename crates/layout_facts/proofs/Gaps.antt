@@ -10,7 +10,10 @@ use native.Mathlib.Omega.{arith}
 use lib.ListN.{length}
 use lib.Dec.{ltb, eqb}
 use Rattle.laws.proofs.Booleans.{false_true}
-use Rattle.text.proofs.Trims.{trim_before}
+use Rattle.text.proofs.Counts.{range_start}
+use Rattle.text.proofs.Cuts.{uncut}
+use Rattle.text.proofs.Parts.{well_formed_between}
+use Rattle.text.proofs.Trims.{trim_before, trim_range}
 use Rattle.text.specs.Newlines.{count_newlines}
 use Rattle.text.specs.Space.{something}
 use Rattle.ast.specs.Syntax.{Span}
@@ -24,6 +27,26 @@ use Rattle.layout_facts.specs.Placing.{trimmed}
 use Rattle.layout_facts.specs.Sound.{Inside, Ranged, Commented, ROW_TAKES, Sound, Sounds}
 use Rattle.layout_facts.proofs.Steps.{sound_then, ◌⨾◌, fewer, sound_skip, sound_move_to, sound_line, sound_empty_line, sound_comment, sound_cond}
 
+-- what takes neither numbers nor comments
+pub record Free (s : St) (o : Out) : Type 0 where
+  pub taken : o.taken ≡ 0
+  pub placed : o.placed ≡ s.placed
+
+module _ (g : Given) where
+  newlines_free : (p : ℕ) (s : St) → Free s (step_alone (newlines g p) s)
+  unfolding newlines ◌⨟◌
+  newlines_free p s = counted (eqb (count_newlines g.source s.pos p).count 0) (eqb (count_newlines g.source s.pos p).count 1)
+    where
+      counted : (t u : Bool) → Free s ((cond t skip (cond u (push line) (push empty_line)) ⨟ move_to p) s)
+      counted true u = record { taken = refl; placed = refl }
+      counted false true = record { taken = refl; placed = refl }
+      counted false false = record { taken = refl; placed = refl }
+
+  pub before_free : (leading : Bool) (p : ℕ) (s : St) → Free s (cond leading (step_alone (newlines g p)) (ignore_newlines g p) s)
+  unfolding ignore_newlines
+  before_free true p s = newlines_free p s
+  before_free false p s = record { taken = refl; placed = refl }
+
 module _ {g : Given} (commented : Commented g) where
   inside_comment : {c : Span} → Ranged g.source c → Inside g (trimmed g c)
   inside_comment {c} r =
@@ -31,6 +54,8 @@ module _ {g : Given} (commented : Commented g) where
         origin = omega arith;
         fits = omega (arith, trim_before g.source c.start c.end, r.ordered, r.fits);
         due = λ e. absurd (omega arith);
+        formed = well_formed_between g.source c.start _ (trim_range g.source c.start c.end r.range) commented.formed;
+        uncut = uncut g.source c.start (range_start g.source c.start c.end r.range);
       }
 
   sound_newlines : {d : ℕ} (p : ℕ) → p ≤ length g.source → Sounds g ROW_TAKES d (step_alone (newlines g p))
@@ -49,25 +74,6 @@ module _ {g : Given} (commented : Commented g) where
       at : (s : St) (f : Option Span) → Sound g 0 d s (move_to (elim f [ None ↦ p | Some c ↦ min p c.start ]) s)
       at s None = (sound_move_to h).from s
       at s (Some c) = let i : min p c.start ≤ length g.source = omega arith in (sound_move_to i).from s
-
-  -- they take neither numbers nor comments
-  pub record Free (s : St) (o : Out) : Type 0 where
-    pub taken : o.taken ≡ 0
-    pub placed : o.placed ≡ s.placed
-
-  newlines_free : (p : ℕ) (s : St) → Free s (step_alone (newlines g p) s)
-  unfolding newlines ◌⨟◌
-  newlines_free p s = counted (eqb (count_newlines g.source s.pos p).count 0) (eqb (count_newlines g.source s.pos p).count 1)
-    where
-      counted : (t u : Bool) → Free s ((cond t skip (cond u (push line) (push empty_line)) ⨟ move_to p) s)
-      counted true u = record { taken = refl; placed = refl }
-      counted false true = record { taken = refl; placed = refl }
-      counted false false = record { taken = refl; placed = refl }
-
-  pub before_free : (leading : Bool) (p : ℕ) (s : St) → Free s (cond leading (step_alone (newlines g p)) (ignore_newlines g p) s)
-  unfolding ignore_newlines
-  before_free true p s = newlines_free p s
-  before_free false p s = record { taken = refl; placed = refl }
 
   -- What takes comments lays two rows for each at most; where t holds, it takes one.
   record Pops (d : ℕ) (t : Bool) (s : St) (o : Out) : Type 0 where
@@ -129,7 +135,7 @@ module _ {g : Given} (commented : Commented g) where
           pops_then (pop_comment g leading c) (pop_comments g n p true) s
           (pops_one c (cond leading (step_alone (newlines g c.start)) (ignore_newlines g c.start)) (c.end - 1) s r ends
           (sound_cond leading (sound_newlines c.start starts) (fewer (sound_ignore_newlines c.start starts) (omega arith)))
-          (before_free leading c.start))
+          (before_free g leading c.start))
           (more (next s (pop_comment g leading c s)))
       taken c r more false = pops_none s
 
@@ -190,7 +196,7 @@ module _ {g : Given} (commented : Commented g) where
       last : (s : St) (w : Bool) → waits g p s ≡ w → (t : Bool)
           → Sound g 0 d s ((loop ⨟ step_alone (after_comments g (w && t) p false)) s)
       last s true e true =
-          sound_closed loop (step_alone (newlines g p)) s (pops_comments (length g.comments) p a s) (waiting p s e) (sound_newlines p h) (newlines_free p)
+          sound_closed loop (step_alone (newlines g p)) s (pops_comments (length g.comments) p a s) (waiting p s e) (sound_newlines p h) (newlines_free g p)
       last s true e false = quiet s
       last s false e t = quiet s
 

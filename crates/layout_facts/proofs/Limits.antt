@@ -8,6 +8,7 @@ use mathlib.Core.List.{List, [], ◌∷◌, ◌++◌}
 use Rattle.std.specs.Prelude.{None as nothing}
 use native.Mathlib.Omega.{arith}
 use lib.ListN.{length}
+use Rattle.text.specs.Utf8.{well_formed}
 use Rattle.text.proofs.Counts.{range_inside}
 use Rattle.image.proofs.Accepted.{Root}
 use Rattle.ast.specs.Syntax.{Declaration, SyntaxTree}
@@ -17,9 +18,11 @@ use Rattle.tree.proofs.Walk.{declarations_order}
 use Rattle.tree.proofs.Whole.{root_at}
 use Rattle.rows.specs.Limits.{MAX_ROWS, MAX_NUMBER}
 use Rattle.rows.specs.Places.{PLACES}
+use Rattle.rows.specs.Node.{Text, Nodes}
 use Rattle.rows.specs.Rows.{sizes, rows}
 use Rattle.rows.proofs.Flatten.{Holds}
-use Rattle.renderer_rules.specs.Check.{wrong_place}
+use Rattle.renderer_rules.specs.Check.{wrong_place, wrong_place_by}
+use Rattle.node_widths.specs.Summed.{summed_all}
 use Rattle.acts.specs.Act.{Given, St, Out, Act}
 use Rattle.acts.specs.Laid.{st, Room}
 use Rattle.acts.specs.declared.Cursor.{Cursor}
@@ -35,21 +38,22 @@ use Rattle.layout_facts.proofs.InOrder.{places_shebang, places_declarations, pla
 use Rattle.layout_facts.proofs.Steps.{◌⨾◌, fewer, sound_when}
 use Rattle.layout_facts.proofs.Parts.{points}
 use Rattle.layout_facts.proofs.Document.{sound_shebang, sound_declarations, sound_closing, sound_whole}
-use Rattle.layout_facts.proofs.Passes.{not_refused}
+use Rattle.layout_facts.proofs.Passes.{not_refused, laid_passes}
 use Rattle.layout_facts.proofs.Levels.{accepted_high}
 
 -- ---- an accepted image
-pub commented : {s b : List ℕ} → Listed s b → Commented (given s b)
-commented {s} l =
+pub commented : {s b : List ℕ} → well_formed s ≡ true → Listed s b → Commented (given s b)
+commented {s} formed l =
     record {
       ranged =
           λ k c f.
           let w = range_inside s c.start c.end (good l k c f).range in
-          record { ordered = omega (arith, w); fits = omega (arith, w) };
+          record { ordered = omega (arith, w); fits = omega (arith, w); range = (good l k c f).range };
+      formed = formed;
     }
 
-pub stands : (ordered : Bool) (s b : List ℕ) (n at : ℕ) (r : Root ordered s b n at) → Stands (given s b) (syntax_tree b r.tree) at
-stands ordered s b n at r =
+pub stands : (ordered : Bool) (s b : List ℕ) (n at : ℕ) → well_formed s ≡ true → (r : Root ordered s b n at) → Stands (given s b) (syntax_tree b r.tree) at
+stands ordered s b n at formed r =
     let l : Listed s b =
     record {
       few = r.list.few;
@@ -61,7 +65,7 @@ stands ordered s b n at r =
     record {
       tree = root_at s b ordered n at r;
       high = accepted_high s b 2 1 at r.tree (length b) r.reads;
-      comments = commented l;
+      comments = commented formed l;
       count = omega (arith, count_of b, r.list.few);
       place = omega (arith, count_of b, r.count, r.place);
       small = omega (arith, r.head.size, r.head.short);
@@ -157,6 +161,12 @@ module _ {g : Given} {t : SyntaxTree} {at : ℕ} (a : Stands g t at) where
   pub due_passes : {o : Out} → Within g o → (store : List ℕ) → Holds store 0 (rows o.nodes 0) → sizes o.nodes * PLACES ≤ length store
       → wrong_place g.source g.image store 0 (0 + sizes o.nodes) ≡ nothing
   due_passes {o} w store h fits = not_refused g o.nodes store 0 h w.deep w.texts (omega (arith, w.rows)) (omega arith)
+
+  -- the same whatever widths were laid, under every rule
+  pub due_passes_by : (rule : ℕ) (f : ℕ → Text → ℕ) {o : Out} → Within g o → (store : List ℕ) → Holds store 0 (rows (summed_all f o.nodes) 0)
+      → sizes o.nodes * PLACES ≤ length store
+      → wrong_place_by rule g.source g.image store 0 (0 + sizes o.nodes) ≡ nothing
+  due_passes_by rule f {o} w store h fits = laid_passes rule f g o.nodes store 0 h w.deep w.texts (omega (arith, w.rows)) (omega arith)
 
   -- ---- room for the rows of a layout call, from any state that refusal 12 lets pass
   room : {d : ℕ} (s : Act) → Sounds g (points g at 0) d s → Places g s → (c : Cursor) → c.row ≤ MAX_ROWS → c.number ≤ MAX_NUMBER

@@ -2,15 +2,22 @@
 -- Assumes nothing.
 use Prim.Native.Nat.{ℕ, ◌+◌, ◌*◌, ◌-◌, ◌≤◌}
 use Prim.Native.String.{String}
-use mathlib.Core.Path.{◌≡◌, refl, sym, ap}
+use mathlib.Core.Path.{◌≡◌, refl, sym, ap, ◌∙◌}
 use mathlib.Core.Bool.{Bool, true, false, not, ◌&&◌}
 use mathlib.Core.List.{List, [], ◌∷◌}
 use Rattle.std.specs.Prelude.{None as nothing, Some}
 use native.Mathlib.Omega.{arith}
-use lib.ListN.{length}
+use lib.ListN.{length, take, drop}
 use lib.Text.{eqt}
-use Rattle.text.proofs.Counts.{range_inside}
-use Rattle.image.specs.Bytes.{be32}
+use borrow.Author.Tests.{le-leb}
+use Rattle.text.specs.Utf8.{well_formed, boundary}
+use Rattle.text.specs.Space.{trim_end}
+use Rattle.text.specs.Newlines.{is_range}
+use Rattle.text.proofs.Counts.{range_inside, range_start}
+use Rattle.text.proofs.Cuts.{uncut, text_range, trimmed_formed}
+use Rattle.text.proofs.Parts.{between, well_formed_between}
+use Rattle.image.specs.Bytes.{be32, part}
+use Rattle.image.specs.Read.{stop_at}
 use Rattle.ast.specs.Syntax.{Span, Ident, Path, Idents, TypeExpr, type, TypeForm, option, type_path, never, unit, record_type, TypeArgs, no_args, args}
 use Rattle.ast.specs.Syntax.{Types, no_types, ◌∷ᵗ◌, Fields, no_fields, field, Import, import, ImportGroup, no_group, group, Imports, no_imports, ◌∷ⁱ◌}
 use Rattle.ast.specs.Syntax.{Pattern, underscore, enum_variant}
@@ -19,6 +26,7 @@ use Rattle.tree.specs.At.{ImportGroupAt, ImportsAt, PatternAt}
 use Rattle.rows.specs.Node.{Text, wrap_parent}
 use Rattle.rows.specs.Words.{among, word, is_word}
 use Rattle.rows.proofs.Table.{words_there, word_inside}
+use Rattle.renderer_rules.proofs.ByRule.{word_formed, word_uncut}
 use Rattle.acts.specs.Act.{Given, Act, push, says, when}
 use Rattle.layout.specs.declared.forms.WrapStyle.{WrapStyle}
 use Rattle.layout.specs.declared.forms.WrapStyle.TheVariants.{Tight, Spaced, Wrap}
@@ -39,7 +47,13 @@ Fits w = is_word w ≡ true
 pub inside_word : {g : Given} (w : String) → Fits w → Inside g (word w)
 unfolding word
 inside_word w e =
-    record { origin = omega arith; fits = word_inside w e; due = λ i. record { letters = w; same = refl; there = words_there w e } }
+    record {
+      origin = omega arith;
+      fits = word_inside w e;
+      due = λ i. record { letters = w; same = refl; there = words_there w e };
+      formed = word_formed (word w).start (word w).size (word_inside w e);
+      uncut = word_uncut (word w).start (word w).size (word_inside w e);
+    }
 
 -- a text of the source or the image is no word
 pub no_word : {t : Text} → t.origin ≤ 1 → t.origin ≡ 2 → Worded t
@@ -49,10 +63,17 @@ pub sound_says : {g : Given} {d : ℕ} (w : String) → Fits w → Sounds g ROW_
 sound_says w e = sound_ascii (inside_word w e)
 
 -- ---- spans and texts
+pub sized : (s : List ℕ) (x n : ℕ) → well_formed (between s x (x + n)) ≡ true → well_formed (take n (drop x s)) ≡ true
+sized s x n e = let same : x + n - x ≡ n = omega arith in rw same at e
+
+-- a range of the source is UTF-8 and cuts nothing
+pub range_formed : (s : List ℕ) (x y : ℕ) → well_formed s ≡ true → is_range s x y ≡ true → well_formed (take (y - x) (drop x s)) ≡ true
+range_formed s x y f r = well_formed_between s x y r f
+
 pub ranged : {s b : List ℕ} {k at : ℕ} {p : Span} → Head s b k p at → Ranged s p
 ranged {s} {p = p} h =
     let r = range_inside s p.start p.end h.range in
-    record { ordered = omega (arith, r); fits = omega (arith, r) }
+    record { ordered = omega (arith, r); fits = omega (arith, r); range = h.range }
 
 pub from_start : {s : List ℕ} {p : Span} → Ranged s p → p.start ≤ length s
 from_start r = omega (arith, r.ordered, r.fits)
@@ -60,9 +81,40 @@ from_start r = omega (arith, r.ordered, r.fits)
 pub supplied : {g : Given} {at : ℕ} {i : Ident} (t : Text) → IdentAt g.source g.image i at → Supplied g (g.columns i.width t) t
 supplied {g} {at} t a = record { at = at + 13; same = ap (λ (n : ℕ). g.columns n t) (sym a.wide) }
 
+-- a text of the image is a range of it, though the image isn't UTF-8
+module _ {s b : List ℕ} {i : Ident} {at : ℕ} (a : IdentAt s b i at) where
+  ends_clear : boundary b (i.start + i.size) ≡ true
+  unfolding boundary
+  ends_clear = rw a.ends (rw (le-leb (stop_at b at) (length b) a.head.fits, a.clear.starts))
+
+  same_part : between b i.start (i.start + i.size) ≡ part (at + 15) (stop_at b at) b
+  same_part =
+      ap (λ (n : ℕ). part i.start n b) a.ends ∙ ap (λ (n : ℕ). part n (stop_at b at) b) (sym a.starts)
+
+  between_formed : well_formed (between b i.start (i.start + i.size)) ≡ true
+  between_formed = ap well_formed same_part ∙ a.formed
+
+  pub ident_range : is_range b i.start (i.start + i.size) ≡ true
+  ident_range =
+      text_range b i.start (i.start + i.size) (omega arith) (omega (arith, a.ends, a.head.fits)) between_formed ends_clear
+
+  pub ident_formed : well_formed (take i.size (drop i.start b)) ≡ true
+  ident_formed = sized b i.start i.size between_formed
+
+  pub shebang_formed : well_formed (take (trim_end b i.start (i.start + i.size) - i.start) (drop i.start b)) ≡ true
+  shebang_formed = trimmed_formed b i.start (i.start + i.size) ident_range between_formed
+
 pub sound_ident : {g : Given} {d at : ℕ} {i : Ident} → IdentAt g.source g.image i at → Sounds g ROW_TAKES d (ident g i)
 sound_ident {i = i} a =
-    sound_str (record { origin = omega arith; fits = omega (arith, a.ends, a.head.fits); due = no_word (omega arith) }) (supplied _ a)
+    sound_str
+    (record {
+      origin = omega arith;
+      fits = omega (arith, a.ends, a.head.fits);
+      due = no_word (omega arith);
+      formed = ident_formed a;
+      uncut = uncut _ _ (range_start _ _ _ (ident_range a));
+    })
+    (supplied _ a)
 
 -- what the bytes of the record at `at` give, less k rows that are left for what stands around it
 unfoldable pub points : Given → ℕ → ℕ → ℕ

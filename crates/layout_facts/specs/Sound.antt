@@ -1,7 +1,9 @@
 -- What the layout rules keep to: how many rows and numbers they need, how deep the rows are, where the texts lie and what they measure, where
 -- the position is.
-use Rattle.std.specs.Prelude.{ℕ, ◌+◌, ◌*◌, ◌-◌, ◌≤◌, ◌≡◌, List, [], ◌∷◌, length, get_or, Some}
+use Rattle.std.specs.Prelude.{ℕ, ◌+◌, ◌*◌, ◌-◌, ◌≤◌, ◌≡◌, true, false, List, [], ◌∷◌, length, get_or, take, drop, Some}
 use Prim.Native.String.{String}
+use Rattle.text.specs.Utf8.{well_formed, cuts}
+use Rattle.text.specs.Newlines.{is_range}
 use Rattle.image.specs.Bytes.{be16}
 use Rattle.ast.specs.Syntax.{Span}
 use Rattle.rows.specs.Node.{Text, Node, Nodes, group, indent, indent_next, wrap_parent, comment, str, ascii, line, empty_line, line_or_space, if_wrap, call}
@@ -17,11 +19,17 @@ pub record Worded (t : Text) : Type 0 where
   pub same : t ≡ word letters
   pub there : There letters
 
--- a text lies inside its origin, the source, the image or the fixed words; of these, it is a word
+-- what a text stands in: the source, the image or the fixed words
+abbrev pub origin_of : Given → Text → List ℕ
+origin_of g t = get_or (g.source ∷ g.image ∷ words ∷ []) t.origin []
+
+-- a text lies inside its origin; of the fixed words, it is a word; it is UTF-8, and cuts no character
 pub record Inside (g : Given) (t : Text) : Type 0 where
   pub origin : t.origin ≤ 2
-  pub fits : t.start + t.size ≤ length (get_or (g.source ∷ g.image ∷ words ∷ []) t.origin [])
+  pub fits : t.start + t.size ≤ length (origin_of g t)
   pub due : t.origin ≡ 2 → Worded t
+  pub formed : well_formed (take t.size (drop t.start (origin_of g t))) ≡ true
+  pub uncut : cuts (origin_of g t) t.start ≡ false
 
 -- a text of the image measures what `columns` makes of the width that the image supplies, in two of its bytes
 pub record Supplied (g : Given) (w : ℕ) (t : Text) : Type 0 where
@@ -52,10 +60,12 @@ unfoldable mutual
 pub record Ranged (s : List ℕ) (p : Span) : Type 0 where
   pub ordered : p.start ≤ p.end
   pub fits : p.end ≤ length s
+  pub range : is_range s p.start p.end ≡ true
 
--- the comments are ranges of the source
+-- the source is UTF-8, and the comments are ranges of it
 pub record Commented (g : Given) : Type 0 where
   pub ranged : (k : ℕ) (c : Span) → nth g.comments k ≡ Some c → Ranged g.source c
+  pub formed : well_formed g.source ≡ true
 
 -- Rows are reckoned against the image's bytes in points: a byte gives 5 and a row takes 13. So a record's head, 13 bytes, gives five rows.
 abbrev pub BYTE_GIVES : ℕ

@@ -1,7 +1,7 @@
 -- What a dry run sees after `put_aside`: the same document, and at the rows' own numbers the marks that the true run starts with.
 -- Assumes nothing.
 use mathlib.Core.Path.{◌≡◌, refl, ap, sym, ◌∙◌, subst}
-use Prim.Native.Nat.{ℕ, zero, suc, ◌+◌, ◌-◌, ◌≤◌, ◌<◌, max}
+use Prim.Native.Nat.{ℕ, zero, suc, ◌+◌, ◌*◌, ◌-◌, ◌≤◌, ◌<◌, max}
 use native.Mathlib.Omega.{arith}
 use mathlib.Core.Bool.{Bool, true, false, cond, ◌||◌}
 use mathlib.Core.List.{List, [], ◌∷◌, ◌++◌, append_assoc}
@@ -10,13 +10,13 @@ use lib.Seq.{get_or-set_other, take-suc-set, drop-set-lt}
 use lib.Dec.{ltb, eqb}
 use borrow.Author.Tests.{eqb-true, eqb-false, ltb-true, ltb-false, lt-ltb, le-ltb}
 use Rattle.rows.specs.Kinds.{GROUP, IF_WRAP, CALL}
-use Rattle.rows.specs.Places.{KIND, NUMBER, SECOND_NUMBER}
+use Rattle.rows.specs.Places.{KIND, NUMBER, SECOND_NUMBER, WIDTH, PLACES}
 use Rattle.rows.specs.View.{cell, view_of}
 use Rattle.rows.specs.Nesting.{Nests, Nested}
 use Rattle.marks.proofs.Restored.{has, set_zero, clear_other}
-use Rattle.marks.proofs.Scratch.{scratched}
+use Rattle.marks.proofs.Scratch.{other, scratched}
 use Rattle.marks.proofs.Aside.{aside_rows, aside_marks}
-use Rattle.marks.proofs.Undone.{owns, owns_same, not_str}
+use Rattle.marks.proofs.Undone.{numbers_same, owns, owns_same, not_str}
 use Rattle.marks.specs.Marks.{row_marks, marks_needed, clear, cleared_all, saved, clear_from, numbers_of, packed_marks, Held, row_aside, put_aside}
 
 row_view : (u : ℕ) (ns : List ℕ) (h : Held) (i : ℕ) → numbers_of h.rows i ≡ ns → view_of (row_aside u ns h i).rows ≡ view_of h.rows
@@ -29,6 +29,35 @@ pub aside_view : (n u : ℕ) (h : Held) (i : ℕ) → view_of (put_aside n u h i
 unfolding put_aside
 aside_view zero u h i = refl
 aside_view (suc n) u h i = aside_view n u (row_aside u (numbers_of h.rows i) h i) (suc i) ∙ row_view u (numbers_of h.rows i) h i refl
+
+-- Every place of a row stays but the width place of one that has numbers: so no row with a text changes.
+row_place : (u : ℕ) (ns : List ℕ) (h : Held) (i k p : ℕ) → p < WIDTH → cell (row_aside u ns h i).rows k p ≡ cell h.rows k p
+unfolding row_aside
+row_place u [] h i k p b = refl
+row_place u (n ∷ ns) h i k p b = other h.rows i (packed_marks (saved u (n ∷ ns) h.marks)) k p b
+
+pub aside_place : (n u : ℕ) (h : Held) (i k p : ℕ) → p < WIDTH → cell (put_aside n u h i).rows k p ≡ cell h.rows k p
+unfolding put_aside
+aside_place zero u h i k p b = refl
+aside_place (suc n) u h i k p b =
+    let ns = numbers_of h.rows i in
+    aside_place n u (row_aside u ns h i) (suc i) k p b ∙ row_place u ns h i k p b
+
+row_width : (u : ℕ) (ns : List ℕ) (h : Held) (i k : ℕ) → numbers_of h.rows i ≡ ns → numbers_of h.rows k ≡ []
+    → cell (row_aside u ns h i).rows k WIDTH ≡ cell h.rows k WIDTH
+unfolding row_aside
+row_width u [] h i k e f = refl
+row_width u (n ∷ ns) h i k e f = get_or-set_other h.rows (i * PLACES + WIDTH) (k * PLACES + WIDTH) _ 0 (λ q. clash (omega arith))
+  where
+    clash : k ≡ i → ⊥
+    clash q = let z : ◌≡◌ {A = ℕ} 0 1 = cc (ap (numbers_of h.rows) q) in omega arith
+
+pub aside_width : (n u : ℕ) (h : Held) (i k : ℕ) → numbers_of h.rows k ≡ [] → cell (put_aside n u h i).rows k WIDTH ≡ cell h.rows k WIDTH
+unfolding put_aside
+aside_width zero u h i k f = refl
+aside_width (suc n) u h i k f =
+    let ns = numbers_of h.rows i in
+    aside_width n u (row_aside u ns h i) (suc i) k (numbers_same u ns h i k ∙ f) ∙ row_width u ns h i k refl f
 
 pub aside_size : (n u : ℕ) (h : Held) (i : ℕ) → length (put_aside n u h i).rows ≡ length h.rows
 unfolding put_aside

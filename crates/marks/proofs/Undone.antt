@@ -36,7 +36,7 @@ pub record Unused (n : ℕ) (s : List ℕ) (i : ℕ) : Type 0 where
 numbers_set : (s : List ℕ) (i x k : ℕ) → numbers_of (set s (i * PLACES + WIDTH) x) k ≡ numbers_of s k
 numbers_set s i x k = rw (other s i x k 0 (omega arith), other s i x k 1 (omega arith), other s i x k 2 (omega arith))
 
-numbers_same : (u : ℕ) (ns : List ℕ) (h : Held) (i k : ℕ) → numbers_of (row_aside u ns h i).rows k ≡ numbers_of h.rows k
+pub numbers_same : (u : ℕ) (ns : List ℕ) (h : Held) (i k : ℕ) → numbers_of (row_aside u ns h i).rows k ≡ numbers_of h.rows k
 unfolding row_aside
 numbers_same u [] h i k = refl
 numbers_same u (n ∷ ns) h i k = numbers_set h.rows i (packed_marks (saved u (n ∷ ns) h.marks)) k

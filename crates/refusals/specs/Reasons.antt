@@ -27,6 +27,7 @@ number_of reason.Steps = 16
 number_of reason.ImageNeeds = 17
 number_of reason.Frames = 18
 number_of reason.BatchNeeds = 19
+number_of reason.Rule = 20
 
 abbrev pub refusal : Refused → Refusal
 refusal r = record { number = number_of r.reason; place = r.place }

@@ -29,13 +29,14 @@ pub enum Reason {
     ImageNeeds = 17,
     Frames = 18,
     BatchNeeds = 19,
+    Rule = 20,
 }
 
 impl Reason {
     pub fn number(self) -> u8
         ensures { result ≡ number_of self }
     {
-        // kept: an enum's number is got by a cast alone; a table of the 19 would say them twice.
+        // kept: an enum's number is got by a cast alone; a table of the 20 would say them twice.
         self as u8
     }
 

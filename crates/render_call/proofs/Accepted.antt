@@ -8,7 +8,8 @@ use Prim.Native.Nat.{ℕ, ◌-◌, ◌*◌, ◌≤◌}
 use lib.ListN.{length, take}
 use Rattle.rows.specs.Places.{PLACES}
 use Rattle.renderer_rules.specs.Limits.{MAX_INDENT, MAX_COLUMN}
-use Rattle.renderer_rules.specs.Check.{wrong_place}
+use Rattle.renderer_rules.specs.Check.{wrong_place, wrong_place_by}
+use Rattle.renderer_rules.proofs.ByRule.{right_by}
 use Rattle.cut_rule.specs.Tests.{odd_mark}
 use Rattle.cut_rule.proofs.Table.{before_told}
 use Rattle.marks.specs.Marks.{marks_needed}
@@ -19,6 +20,7 @@ use Rattle.render_call.specs.declared.RenderArgs.{RenderArgs}
 use Rattle.render_call.proofs.Tests.{stop_within}
 
 pub record Accepted (source image : List ℕ) (state : RenderState) (args : RenderArgs) (store marks : List ℕ) : Type 0 where
+  pub by_rule : wrong_place_by args.rule source image store state.row args.stop ≡ None
   pub right : wrong_place source image store state.row args.stop ≡ None
   pub within : args.stop * PLACES ≤ length store
   pub ahead : state.row ≤ args.stop
@@ -34,9 +36,11 @@ pub accepted : (source image : List ℕ) (state : RenderState) (args : RenderArg
 accepted source image state args store marks e =
     let told = before_told (parts_of source image) (to_args args 0) (to_state state) store marks e in
     let fits = told.checked.fits in
+    let right = right_by args.rule source image store state.row args.stop told.checked.right in
     record {
-      right = told.checked.right;
-      within = stop_within source image store state.row args.stop told.checked.right;
+      by_rule = told.checked.right;
+      right = right;
+      within = stop_within source image store state.row args.stop right;
       ahead = fits.row.not_past;
       indent = fits.pen.indent;
       next = fits.pen.next_indent;

@@ -14,7 +14,7 @@ use Rattle.rows.specs.Nesting.{Nested}
 use Rattle.rows.specs.declared.units.Bytes as sizes
 use Rattle.renderer_rules.specs.Check.{uses_number, uses_number2, uses_second, uses_text, uses_width, text_fits, no_text_fits, places_fit}
 use Rattle.renderer_rules.specs.Renderer.{Renderer, fresh_renderer, render_nodes}
-use Rattle.renderer_rules.specs.Page.{page_of}
+use Rattle.node_widths.specs.Measured.{rule_page}
 use Rattle.renderer_rules.proofs.Names.{renders_same}
 use Rattle.renderer_rules.proofs.OwnMarks.{Agree, Inside, renders_alike}
 use Rattle.renderer.specs.Run.{Ended}
@@ -24,12 +24,11 @@ use Rattle.marks.specs.Marks.{marks_needed, clear_from, Held, held, put_aside, p
 use Rattle.marks.proofs.Undone.{owns, Bytes, Unused, undone}
 use Rattle.marks.proofs.Seen.{aside_view, aside_size, aside_count, aside_nested, clear_count, clear_parts, same_start}
 use Rattle.whole_run.proofs.Past.{renders_length}
-use Rattle.whole_run.proofs.Right.{right}
 use Rattle.render_call.specs.Whole.{Counted, Takes}
 use Rattle.render_call.specs.declared.RenderState.{RenderState}
 use Rattle.render_call.specs.declared.RenderArgs.{RenderArgs}
 use Rattle.render_call.proofs.Accepted.{Accepted}
-use Rattle.render_call.proofs.Starts.{nested}
+use Rattle.render_call.proofs.Starts.{nested, places_right}
 use Rattle.render_call.proofs.Ran.{marks_in_use}
 use Rattle.render_call.proofs.Finish.{same}
 use Rattle.render_call.proofs.Owned.{nodes_other}
@@ -100,7 +99,7 @@ module _ (source image : List ℕ) (state : RenderState) (args : RenderArgs) (st
       record {
         at =
             λ k p q f. no_width source image store k
-            ((right source image store state.row args.stop a.ahead a.right).places k p (omega (arith, a.ahead))) f;
+            (places_right source image state args store marks a k p (omega (arith, a.ahead))) f;
       }
 
   -- at these numbers the dry run starts with the same marks
@@ -116,12 +115,12 @@ module _ (source image : List ℕ) (state : RenderState) (args : RenderArgs) (st
       }
 
   abbrev rendered : Renderer → Renderer
-  rendered r = render_nodes (page_of args.width.0 source image) (nodes_at (view_of store) state.row args.stop) true r
+  rendered r = render_nodes (rule_page args.width.0 args.rule source image) (nodes_at (view_of store) state.row args.stop) true r
 
   same_text : (p : Writing) → (rendered (fresh_renderer p.pen aside.marks)).buf ≡ (rendered (fresh_renderer p.pen (taken ++ behind))).buf
   same_text p =
       ap (λ (r : Renderer). r.buf)
-      (renders_alike own (page_of args.width.0 source image) (nodes_at (view_of store) state.row args.stop)
+      (renders_alike own (rule_page args.width.0 args.rule source image) (nodes_at (view_of store) state.row args.stop)
       true (fresh_renderer p.pen (taken ++ behind)) (fresh_renderer p.pen aside.marks)
       inside
       (record { rest = refl; marks = agree })).rest
@@ -142,14 +141,14 @@ module _ (source image : List ℕ) (state : RenderState) (args : RenderArgs) (st
     -- the run with limit 0, and the marks put back
     module _ (p q : Writing) (k : Takes state p) (b : Bytes marks) (marks3 out3 rows4 marks4 : List ℕ)
         (r : Ended 0
-        (render_nodes (page_of args.width.0 source image) (nodes_at (view_of rows2) state.row args.stop) true (fresh_renderer p.pen marks2))
+        (render_nodes (rule_page args.width.0 args.rule source image) (nodes_at (view_of rows2) state.row args.stop) true (fresh_renderer p.pen marks2))
         [] marks3 out3 q)
         (f : held rows4 marks4 ≡ put_back count (held rows2 marks3) state.row) where
       dry : Ended 0 (rendered (fresh_renderer p.pen aside.marks)) [] marks3 out3 q
       dry =
           subst₂
           (λ (v : View) (m : List ℕ).
-          Ended 0 (render_nodes (page_of args.width.0 source image) (nodes_at v state.row args.stop) true (fresh_renderer p.pen m)) [] marks3 out3 q)
+          Ended 0 (render_nodes (rule_page args.width.0 args.rule source image) (nodes_at v state.row args.stop) true (fresh_renderer p.pen m)) [] marks3 out3 q)
           same_view
           (ap (λ (h : Held). h.marks) e)
           r
@@ -160,12 +159,12 @@ module _ (source image : List ℕ) (state : RenderState) (args : RenderArgs) (st
           ∙ ap (λ (h : Held). put_back count (held h.rows marks3) state.row) e
           ∙ undone count state.in_use store marks marks3 state.row unused b (let h = a.within in let g = a.ahead in omega arith)
           (ap length dry.marks
-          ∙ renders_length (page_of args.width.0 source image) (nodes_at (view_of store) state.row args.stop) true
+          ∙ renders_length (rule_page args.width.0 args.rule source image) (nodes_at (view_of store) state.row args.stop) true
           (fresh_renderer p.pen aside.marks)
           ∙ aside_count count state.in_use (held store marks) state.row)
           (λ x o.
           ap (λ (m : List ℕ). get_or m x 0) dry.marks
-          ∙ (renders_same x (nodes_at (view_of store) state.row args.stop) (page_of args.width.0 source image) true
+          ∙ (renders_same x (nodes_at (view_of store) state.row args.stop) (rule_page args.width.0 args.rule source image) true
           (fresh_renderer p.pen aside.marks) (inside x o)).mark)
 
       pub counted : (n : sizes.Bytes) → n.0 ≡ q.at.0 → Counted source image state args store marks n rows4 marks4

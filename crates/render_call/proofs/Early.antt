@@ -1,8 +1,8 @@
--- From the first entries of the table, 1, 3, 11, 12 and 15, to those before the run, of which 9 is the last.
+-- From the first entries of the table, 20, 1 to 3, 11, 12 and 15, to those before the run, of which 9 is the last.
 -- Assumes nothing.
 use mathlib.Core.Path.{◌≡◌, sym, ap, ◌∙◌}
 use mathlib.Core.Bool.{Bool}
-use Rattle.std.specs.Prelude.{Option, Some, Err}
+use Rattle.std.specs.Prelude.{Option, None, Some, Err}
 use mathlib.Core.List.{List, [], ◌∷◌}
 use Prim.Native.Nat.{ℕ, ◌+◌, ◌*◌, ◌-◌, ◌≤◌, ◌<◌}
 use native.Mathlib.Omega.{arith}
@@ -15,7 +15,9 @@ use Rattle.cut_rule.specs.Parts.{before_marks, marks_line}
 use Rattle.cut_rule.proofs.Table.{RenderChecked, render_checked}
 use Rattle.rows.specs.Limits.{MAX_ROWS}
 use Rattle.rows.specs.Places.{PLACES}
+use Rattle.renderer_rules.specs.Check.{wrong_place}
 use Rattle.renderer_rules.specs.Limits.{START_MARGIN}
+use Rattle.renderer_rules.proofs.ByRule.{right_by}
 use Rattle.marks.specs.Marks.{marks_needed}
 use Rattle.whole_run.specs.Parts.{parts_of}
 use Rattle.render_call.specs.Calls.{to_state, to_args, early_refusal, run_refusal}
@@ -42,6 +44,9 @@ module _ (source image : List ℕ) (state : RenderState) (args : RenderArgs) (st
     told : RenderChecked (parts_of source image) (to_args args 0) (to_state state) store marks
     told = render_checked (parts_of source image) (to_args args 0) (to_state state) store marks h.passes
 
+    right : wrong_place source image store state.row args.stop ≡ None
+    right = right_by args.rule source image store state.row args.stop told.right
+
     pub small_sum : state.pen.indent + state.pen.next_indent ≤ START_MARGIN
     small_sum = omega (arith, told.fits.pen.indent, told.fits.pen.next_indent)
 
@@ -52,8 +57,8 @@ module _ (source image : List ℕ) (state : RenderState) (args : RenderArgs) (st
         let l = small_sum in (
           told.fits.row.not_past,
           (
-            stop_within source image store state.row args.stop told.right,
-            (few_rows source image store state.row args.stop told.right, omega arith),
+            stop_within source image store state.row args.stop right,
+            (few_rows source image store state.row args.stop right, omega arith),
           ),
         )
 

@@ -10,7 +10,7 @@ use lib.ListN.{length, drop}
 use Rattle.rows.specs.View.{view_of, nodes_at}
 use Rattle.rows.specs.declared.units.Bytes.{Bytes}
 use Rattle.renderer_rules.specs.Renderer.{Renderer, fresh_renderer, render_nodes}
-use Rattle.renderer_rules.specs.Page.{page_of}
+use Rattle.node_widths.specs.Measured.{rule_page}
 use Rattle.renderer.specs.Run.{Ended}
 use Rattle.renderer.specs.declared.writing.Writing.{Writing}
 use Rattle.renderer.proofs.Outcome.{over_full}
@@ -27,12 +27,13 @@ use Rattle.render_call.specs.declared.RenderArgs.{RenderArgs}
 use Rattle.render_call.proofs.Whole.{bytes, ends_written}
 use Rattle.render_call.proofs.Ran.{marks_in_use, gives, ran, widest_same, marks_onto, started}
 
--- t has the pen, the marks then in use, the stop as its next row, and the width
-pub record Leaves (q : Writing) (used stop chosen : ℕ) (t : RenderState) : Type 0 where
+-- t has the pen, the marks then in use, the stop as its next row, the width and the rule
+pub record Leaves (q : Writing) (used : ℕ) (args : RenderArgs) (t : RenderState) : Type 0 where
   pub pen : t.pen ≡ q.pen
   pub in_use : t.in_use ≡ used
-  pub row : t.row ≡ stop
-  pub width : t.width.0 ≡ chosen
+  pub row : t.row ≡ args.stop
+  pub width : t.width.0 ≡ args.width.0
+  pub rule : t.rule ≡ args.rule
 
 module _ (source image : List ℕ) (state : RenderState) (args : RenderArgs) (store marks : List ℕ) (ahead : state.row ≤ args.stop) (out : List ℕ) where
   -- the marks that the rows need
@@ -46,7 +47,7 @@ module _ (source image : List ℕ) (state : RenderState) (args : RenderArgs) (st
   given = gives source image state args store marks ahead
 
   abbrev rendered : Renderer → Renderer
-  rendered r = render_nodes (page_of args.width.0 source image) (nodes_at (view_of store) state.row args.stop) true r
+  rendered r = render_nodes (rule_page args.width.0 args.rule source image) (nodes_at (view_of store) state.row args.stop) true r
 
   module _ (p : Writing) (k : Takes state p) (past : List ℕ) where
     begun : fresh_renderer p.pen (taken ++ past) ≡ renderer_of (to_state state).pen (taken ++ past)
@@ -72,7 +73,7 @@ module _ (source image : List ℕ) (state : RenderState) (args : RenderArgs) (st
     end = same p k behind
 
     pub finished : (t : RenderState) (n : Bytes) → run_refusal source image args state store marks ≡ None
-        → n.0 ≡ bytes source image state args store marks out → n.0 ≤ length out → Leaves q (max state.in_use needed) args.stop args.width.0 t
+        → n.0 ≡ bytes source image state args store marks out → n.0 ≤ length out → Leaves q (max state.in_use needed) args t
         → Draws source image state args store marks out (Ok (record { written = record { state = t; bytes = n }; widest = q.widest })) store marks2 out2
     finished t n e f h l =
         ends_written source image state args store marks out t n q.widest marks2 out2 e f h left_state
@@ -81,8 +82,8 @@ module _ (source image : List ℕ) (state : RenderState) (args : RenderArgs) (st
         ∙ ap (λ (d : cut.Drawn). write_front d.text out) end)
         (r.widest ∙ widest p k behind)
       where
-        left_state : to_state t ≡ record { pen = given.pen; in_use = max state.in_use needed; row = args.stop; width = args.width.0 }
+        left_state : to_state t ≡ record { pen = given.pen; in_use = max state.in_use needed; row = args.stop; width = args.width.0; rule = args.rule }
         left_state =
-            rw (l.in_use, l.row, l.width)
-            (ap (λ (z : Pen). record { pen = z; in_use = max state.in_use needed; row = args.stop; width = args.width.0 })
+            rw (l.in_use, l.row, l.width, l.rule)
+            (ap (λ (z : Pen). record { pen = z; in_use = max state.in_use needed; row = args.stop; width = args.width.0; rule = args.rule })
             (l.pen ∙ r.pen ∙ ap (λ (d : cut.Drawn). d.pen) end))

@@ -9,7 +9,7 @@ use native.Mathlib.Nat.{zero-max}
 use lib.ListN.{length, take, drop, replicate, length-append, length-replicate}
 use Rattle.rows.specs.View.{view_of, nodes_at}
 use Rattle.renderer_rules.specs.Renderer.{Renderer, fresh_renderer, render_nodes}
-use Rattle.renderer_rules.specs.Page.{page_of}
+use Rattle.node_widths.specs.Measured.{rule_page}
 use Rattle.renderer_rules.specs.declared.Pen.{Pen}
 use Rattle.renderer.specs.declared.writing.Writing.{Writing}
 use Rattle.cut_rule.specs.Run.{write_front}
@@ -51,11 +51,11 @@ module _ (source image : List ℕ) (state : RenderState) (args : RenderArgs) (st
 
   -- the rows rendered, with any marks behind those in use
   abbrev rendered : List ℕ → Renderer
-  rendered m = render_nodes (page_of args.width.0 source image) (nodes_at (view_of store) state.row args.stop) true (renderer_of (to_state state).pen m)
+  rendered m = render_nodes (rule_page args.width.0 args.rule source image) (nodes_at (view_of store) state.row args.stop) true (renderer_of (to_state state).pen m)
 
   past_same : (past : List ℕ) → rendered (marks_in_use ++ past) ≡ ext [] past 0 (rendered marks_in_use)
   past_same past =
-      renders_ext [] past 0 (page_of args.width.0 source image)
+      renders_ext [] past 0 (rule_page args.width.0 args.rule source image)
       (nodes_at (view_of store) state.row args.stop) true (renderer_of (to_state state).pen marks_in_use) under
 
   pub ran : (past : List ℕ) → drawn_by (rendered (marks_in_use ++ past)) ≡ with_past gives past
@@ -69,7 +69,7 @@ module _ (source image : List ℕ) (state : RenderState) (args : RenderArgs) (st
   marks_onto =
       ap (λ (n : ℕ). gives.marks ++ drop n marks)
       (sym
-      (renders_length (page_of args.width.0 source image) (nodes_at (view_of store) state.row args.stop) true (renderer_of (to_state state).pen marks_in_use)))
+      (renders_length (rule_page args.width.0 args.rule source image) (nodes_at (view_of store) state.row args.stop) true (renderer_of (to_state state).pen marks_in_use)))
 
   -- the renderer that the state's pen starts as
   pub started : (p : Writing) (m : List ℕ) → p.pen ≡ state.pen → fresh_renderer p.pen m ≡ renderer_of (to_state state).pen m

@@ -1,14 +1,17 @@
 -- A call that nothing refuses before its run may run.
 -- Assumes nothing.
-use mathlib.Core.Path.{sym, ap, ◌∙◌}
+use mathlib.Core.Path.{◌≡◌, sym, ap, ◌∙◌}
+use mathlib.Core.Bool.{true}
 use mathlib.Core.List.{List}
-use Prim.Native.Nat.{ℕ}
+use Prim.Native.Nat.{ℕ, ◌≤◌, ◌<◌}
 use native.Mathlib.Omega.{arith}
 use Rattle.rows.specs.View.{view_of}
 use Rattle.rows.specs.Nesting.{Nested}
 use Rattle.renderer_rules.specs.Check.{places_fit}
 use Rattle.renderer_rules.specs.declared.Pen.{Pen}
 use Rattle.renderer_rules.proofs.Checked.{accepted_nests}
+use Rattle.renderer_rules.proofs.ByRule.{fits_by}
+use Rattle.whole_run.proofs.Right.{right}
 use Rattle.rowcheck.proofs.Pending.{stop_fits}
 use Rattle.renderer.specs.Run.{Starting}
 use Rattle.renderer.specs.declared.writing.Writing.{Writing}
@@ -30,6 +33,10 @@ module _ (source image : List ℕ) (state : RenderState) (args : RenderArgs) (st
             (sym (stop_fits source image store state.row args.stop few a.within) ∙ a.right)
             a.ahead;
       }
+
+  pub places_right : (k : ℕ) → state.row ≤ k → k < args.stop → places_fit source image store k ≡ true
+  places_right k p q =
+      fits_by args.rule source image store k ((right args.rule source image store state.row args.stop a.ahead a.by_rule).places k p q)
 
   -- from the state's next row, with its pen, which wrote nothing yet, over rows that nest as the store's do
   pub starts : (rows : List ℕ) → Nested rows state.row args.stop → (p : Writing) → Takes state p → Starting rows state.row args.stop p

@@ -10,12 +10,15 @@ use Rattle.rows.specs.Places.{PLACES}
 use Rattle.rows.specs.View.{view_of, nodes_at}
 use Rattle.rows.specs.declared.units.Bytes.{Bytes}
 use Rattle.renderer_rules.specs.Renderer.{fresh_renderer, render_nodes}
-use Rattle.renderer_rules.specs.Page.{page_of}
+use Rattle.node_widths.specs.Measured.{ascii_columns, rule_page}
 use Rattle.renderer_rules.proofs.Most.{text_most}
 use Rattle.renderer.specs.Run.{Starting, Ended}
 use Rattle.renderer.specs.declared.writing.Writing.{Writing}
 use Rattle.cut_rule.specs.Parts as cut
-use Rattle.marks.specs.Marks.{marks_needed, clear_from, held, put_aside, put_back}
+use Rattle.marks.specs.Marks.{marks_needed, clear_from, Held, held, put_aside, put_back}
+use Rattle.row_widths.specs.Passes.{Unturned}
+use Rattle.row_widths.proofs.Right.{unturned}
+use Rattle.render_by_rule.proofs.Aside.{aside_unturned}
 use Rattle.whole_run.specs.Parts.{renderer_of}
 use Rattle.std.specs.Prelude.{Result, Ok, Err}
 use Rattle.refusals.specs.declared.Reason.TheVariants as reason
@@ -27,7 +30,7 @@ use Rattle.render_call.specs.declared.RenderState.{RenderState}
 use Rattle.render_call.specs.declared.RenderArgs.{RenderArgs}
 use Rattle.render_call.proofs.Accepted.{Accepted, accepted}
 use Rattle.render_call.proofs.Early.{refused_early}
-use Rattle.render_call.proofs.Starts.{nested, starts}
+use Rattle.render_call.proofs.Starts.{nested, starts, places_right}
 use Rattle.render_call.proofs.Ran.{marks_in_use}
 use Rattle.render_call.proofs.Dry as dry
 use Rattle.render_call.proofs.Finish.{same, finished}
@@ -40,11 +43,15 @@ module _ (source image : List ℕ) (state : RenderState) (args : RenderArgs) (st
   pub rows_within : args.stop * PLACES ≤ length store
   rows_within = may.within
 
+  -- its rows may be turned for the time of a run
+  pub rows_unturned : Unturned store state.row args.stop
+  rows_unturned = unturned source image store state.row args.stop (places_right source image state args store marks may)
+
   -- ---- a sum over the rows shows that the text has room
   pub fits_most : (out : List ℕ) (n : ℕ) → n ≡ most_of state args store → n ≤ length out → Fitting source image state args store marks out
   fits_most out n f l =
       let m =
-      text_most args.width.0 source image store state.row args.stop 0 (state.pen.indent + state.pen.next_indent)
+      text_most args.width.0 (ascii_columns args.rule source image) source image store state.row args.stop 0 (state.pen.indent + state.pen.next_indent)
       (nested source image state args store marks may).nests
       true
       (renderer_of (to_state state).pen (marks_in_use source image state args store marks may.ahead))
@@ -62,6 +69,11 @@ module _ (source image : List ℕ) (state : RenderState) (args : RenderArgs) (st
     dry_starts p k =
         starts source image state args store marks may rows2 (dry.aside_nests source image state args store marks may rows2 marks2 e) p k
 
+    pub dry_unturned : Unturned rows2 state.row args.stop
+    dry_unturned =
+        rw (ap (λ (h : Held). h.rows) e)
+        (aside_unturned (args.stop - state.row) state.in_use (held store marks) state.row state.row args.stop rows_unturned)
+
     pub back_within : (state.row ≤ args.stop) × (args.stop * PLACES ≤ length rows2)
     back_within =
         let l = dry.aside_rows source image state args store marks may rows2 marks2 e in
@@ -69,7 +81,7 @@ module _ (source image : List ℕ) (state : RenderState) (args : RenderArgs) (st
         (may.ahead, omega arith)
 
     pub dry_ends : (p q : Writing) → Takes state p → ((k : ℕ) → get_or marks k 0 < 256) → (marks3 out3 rows4 marks4 : List ℕ)
-        → Ended 0 (render_nodes (page_of args.width.0 source image) (nodes_at (view_of rows2) state.row args.stop) true (fresh_renderer p.pen marks2))
+        → Ended 0 (render_nodes (rule_page args.width.0 args.rule source image) (nodes_at (view_of rows2) state.row args.stop) true (fresh_renderer p.pen marks2))
         [] marks3 out3 q
         → held rows4 marks4 ≡ put_back (args.stop - state.row) (held rows2 marks3) state.row
         → Counted source image state args store marks q.at rows4 marks4
@@ -99,6 +111,9 @@ module _ (source image : List ℕ) (state : RenderState) (args : RenderArgs)
   pub marks_within : (n : ℕ) → n ≡ marks_needed (args.stop - state.row) store state.row → n ≤ length marks
   marks_within n e = let w = fine.enough in omega arith
 
+  pub run_unturned : Unturned store state.row args.stop
+  run_unturned = rows_unturned source image state args store marks h.passing
+
   pub run_starts : (p : Writing) → Takes state p → Starting store state.row args.stop p
   run_starts p k = starts source image state args store marks fine store (nested source image state args store marks fine) p k
 
@@ -106,7 +121,7 @@ module _ (source image : List ℕ) (state : RenderState) (args : RenderArgs)
       → marks2 ≡ clear_from (n - state.in_use) state.in_use marks
       → (marks3 out3 : List ℕ)
       → Ended (length out)
-      (render_nodes (page_of args.width.0 source image) (nodes_at (view_of store) state.row args.stop) true (fresh_renderer p.pen marks2)) out
+      (render_nodes (rule_page args.width.0 args.rule source image) (nodes_at (view_of store) state.row args.stop) true (fresh_renderer p.pen marks2)) out
       marks3 out3 q
       → (used : ℕ)
       → used ≡ max state.in_use n
@@ -118,6 +133,7 @@ module _ (source image : List ℕ) (state : RenderState) (args : RenderArgs)
             in_use = used;
             row = args.stop;
             width = args.width;
+            rule = args.rule;
           };
           bytes = q.at;
         };
@@ -131,7 +147,7 @@ module _ (source image : List ℕ) (state : RenderState) (args : RenderArgs)
       let run =
       subst
       (λ (m : List ℕ).
-      Ended (length out) (render_nodes (page_of args.width.0 source image) (nodes_at (view_of store) state.row args.stop) true (fresh_renderer p.pen m))
+      Ended (length out) (render_nodes (rule_page args.width.0 args.rule source image) (nodes_at (view_of store) state.row args.stop) true (fresh_renderer p.pen m))
       out marks3 out3 q)
       over
       r
@@ -142,7 +158,7 @@ module _ (source image : List ℕ) (state : RenderState) (args : RenderArgs)
       in
       let room = h.room in
       finished source image state args store marks fine.ahead out p k marks3 out3 q run _ q.at h.passing.passes sized (omega arith)
-      (record { pen = refl; in_use = g ∙ ap (λ (z : ℕ). max state.in_use z) e; row = refl; width = refl })
+      (record { pen = refl; in_use = g ∙ ap (λ (z : ℕ). max state.in_use z) e; row = refl; width = refl; rule = refl })
 
 -- ---- by what the first tests say
 module _ (source image : List ℕ) (state : RenderState) (args : RenderArgs) (store marks : List ℕ) (v : Result (Unit {0}) Refused)

@@ -16,18 +16,19 @@ use Rattle.render_call.specs.declared.RenderArgs.{RenderArgs}
 use Rattle.render_call.specs.declared.Written.{Written}
 use Rattle.render_call.specs.declared.Drawn.{Drawn}
 
--- "Rendering state: `indent`, `next_indent`, `column`, marks in use, next row"; and the width
+-- "Rendering state: `indent`, `next_indent`, `column`, marks in use, next row"; the width, and the rule of width
 abbrev pub to_state : RenderState → states.RenderState
 to_state s = record {
   pen = s.pen;
   in_use = s.in_use;
   row = s.row;
   width = s.width.0;
+  rule = s.rule;
 }
 
--- "A rendering call names the row to stop before", and chooses a width; `room` is the length of the output that it is lent.
+-- "A rendering call names the row to stop before", and chooses a width and a rule; `room` is the length of the output that it is lent.
 abbrev pub goes_to : RenderArgs → cut.RenderTo states.RenderChoice
-goes_to args = record { stop = args.stop; choice = record { width = args.width.0 } }
+goes_to args = record { stop = args.stop; choice = record { width = args.width.0; rule = args.rule } }
 
 abbrev pub to_args : RenderArgs → ℕ → cut.RenderArgs states.RenderChoice
 to_args args room = record { to = goes_to args; room = room }
@@ -45,7 +46,7 @@ abbrev pub widest_of : Result Drawn Refused → ℕ
 widest_of (Ok d) = d.widest.0
 widest_of (Err r) = 0
 
--- "rendering 1, 3 by the same tests, then 11, 12", and 15: the lines before the rows are counted
+-- 20, "rendering 1, 3 by the same tests, then 11, 12", with 2 between 1 and 3, and 15: the lines before the rows are counted
 abbrev pub early_refusal : List ℕ → List ℕ → RenderArgs → RenderState → List ℕ → List ℕ → Option Refusal
 early_refusal s b args state store marks = first (before_marks (parts_of s b) (to_args args 0) (to_state state) store marks)
 

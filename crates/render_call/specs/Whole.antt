@@ -46,7 +46,7 @@ pub record Counted (source image : List ℕ) (state : RenderState) (args : Rende
   pub store_left_of : store2 ≡ store
   pub marks_left_of : marks2 ≡ marks
 
--- 1, 3, 11, 12 and 15 do not refuse the call
+-- 20, 1 to 3, 11, 12 and 15 do not refuse the call
 pub record Checked (source image : List ℕ) (state : RenderState) (args : RenderArgs) (store marks : List ℕ) : Type 0 where
   pub passes : early_refusal source image args state store marks ≡ None
 

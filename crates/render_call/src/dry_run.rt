@@ -4,9 +4,8 @@ ghost use Rattle.render_call.specs.ByCall.{of_call};
 
 use crate::call::Call;
 use marks::keep::{put_aside, put_back};
-use renderer::machine::run_rows;
+use render_by_rule::{RulePage, run_by_rule};
 use renderer::run::Bounds;
-use rows::texts::Rows;
 use rows::units::Bytes;
 
 impl Call<'_> {
@@ -17,17 +16,24 @@ impl Call<'_> {
         ensures { of_call Counted self.now store.old marks.old result store.new marks.new }
     {
         let (from, stop) = (self.state.row, self.args.stop);
-        let bounds = Bounds {
-            max: self.args.width,
-            stop,
+        let page = RulePage {
+            bounds: Bounds {
+                max: self.args.width,
+                stop,
+            },
+            rule: self.args.rule,
         };
         put_aside(store, marks, self.state.in_use, from, stop);
-        let rows = Rows {
+        let end = run_by_rule(
+            self.start_text(),
+            from,
             store,
-            source: self.source,
-            image: self.image,
-        };
-        let end = run_rows(self.start_text(), from, rows, marks, &mut [], bounds);
+            self.source,
+            self.image,
+            marks,
+            &mut [],
+            page,
+        );
         put_back(store, marks, from, stop);
         end.at
     }

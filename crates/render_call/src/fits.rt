@@ -7,6 +7,7 @@ ghost use Rattle.refusals.specs.Reasons.{refusal_in};
 
 use crate::call::Call;
 use crate::width::width_fits;
+use choices::rule_fits;
 use refusals::{Reason, Refused};
 use renderer_rules::Pen;
 use rows::limits::MAX_ROWS;
@@ -46,6 +47,7 @@ impl Call<'_> {
         row_fits(self.state.row, self.args.stop, store)
             && pen_fits(self.state.pen)
             && marks_fit(marks, self.state.in_use)
+            && rule_fits(self.args.rule, self.state.rule)
     }
 
     // Refusals 12 and 15.

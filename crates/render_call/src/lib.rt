@@ -18,21 +18,23 @@ use refusals::{Reason, Refused};
 use renderer_rules::Pen;
 use rows::units::{Bytes, Columns};
 
-// `indent`, `next_indent` and `column`, marks in use, next row, width (0: none yet).
-// kept: 0 and no Option: C lends the width of a state as a number.
+// `indent`, `next_indent` and `column`, marks in use, next row, width and rule of width (0: none yet).
+// kept: 0 and no Option: C lends the width and the rule of a state as numbers.
 #[derive(Clone, Copy, Debug, Default, PartialEq, Eq)]
 pub struct RenderState {
     pub pen: Pen,
     pub in_use: usize,
     pub row: usize,
     pub width: Columns,
+    pub rule: usize,
 }
 
-// The row to stop before, and the width.
+// The row to stop before, the width, and the rule of width.
 #[derive(Clone, Copy, Debug, PartialEq, Eq)]
 pub struct RenderArgs {
     pub stop: usize,
     pub width: Columns,
+    pub rule: usize,
 }
 
 // What an accepted call gives: the new state, and the bytes written.
@@ -50,7 +52,7 @@ pub struct Drawn {
 }
 
 impl Call<'_> {
-    // A rendering call that 1, 3, 11, 12 and 15 do not refuse.
+    // A rendering call that 20, 1 to 3, 11, 12 and 15 do not refuse.
     pub fn render_checked(
         &self,
         store: &mut [u32],

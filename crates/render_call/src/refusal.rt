@@ -1,31 +1,54 @@
-// Refusals 1, 3, 11, 12 and 15: what the tests before the rows are counted say of a call.
+// Refusals 20, 1, 2, 3, 11, 12 and 15: what the tests before the rows are counted say of a call.
 ghost use Rattle.std.specs.Prelude.{◌≡◌};
-ghost use Rattle.render_call.specs.Calls.{early_refusal};
 ghost use Rattle.refusals.specs.Reasons.{refusal_in};
+ghost use Rattle.whole_run.specs.Parts.{formed_line, render_image};
+ghost use Rattle.render_call.specs.Calls.{early_refusal};
 
 use crate::call::Call;
+use choices::rule_chosen;
 use image::{header_fits, source_fits};
 use refusals::{Reason, Refused};
 use rowcheck::check_rows;
 use rows::texts::Rows;
+use widths::rules::SUPPLIED;
 
 impl Call<'_> {
-    // Refusals 1, 3, 11, 12 and 15, the first that holds.
-    pub(crate) fn refusal(&self, store: &[u32], marks: &[u8]) -> Result<(), Refused>
-        ensures { refusal_in result ≡ early_refusal self.now.source.now self.now.image.now self.now.args self.now.state store.now marks.now }
+    // Refusal 2, which a call with supplied widths does not test.
+    fn formed(&self) -> Result<(), Refused>
+        ensures { refusal_in result ≡ formed_line self.now.args.rule self.now.source.now }
+    {
+        if self.args.rule == SUPPLIED {
+            return Ok(());
+        }
+        text::utf8::check(self.source)
+    }
+
+    // Refusals 1, 2 and 3.
+    fn image_refusal(&self) -> Result<(), Refused>
+        ensures { refusal_in result ≡ render_image self.now.args.rule self.now.source.now self.now.image.now }
     {
         if !source_fits(self.source) {
             return Err(Reason::SourceTooLong.at(0));
         }
+        self.formed()?;
         if !header_fits(self.image) {
             return Err(Reason::Header.at(0));
         }
+        Ok(())
+    }
+
+    // Refusals 20, 1, 2, 3, 11, 12 and 15, the first that holds.
+    pub(crate) fn refusal(&self, store: &[u32], marks: &[u8]) -> Result<(), Refused>
+        ensures { refusal_in result ≡ early_refusal self.now.source.now self.now.image.now self.now.args self.now.state store.now marks.now }
+    {
+        rule_chosen(self.args.rule)?;
+        self.image_refusal()?;
         let rows = Rows {
             store,
             source: self.source,
             image: self.image,
         };
-        check_rows(rows, self.state.row, self.args.stop)?;
+        check_rows(rows, self.state.row, self.args.stop, self.args.rule)?;
         self.state_refusal(store, marks)
     }
 }

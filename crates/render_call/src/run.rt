@@ -8,10 +8,9 @@ use crate::room::Needs;
 use crate::{Drawn, RenderState, Written};
 use marks::count::clear_marks;
 use refusals::{Reason, Refused};
-use renderer::machine::run_rows;
+use render_by_rule::{RulePage, run_by_rule};
 use renderer::run::Bounds;
 use renderer::writing::Writing;
-use rows::texts::Rows;
 use rows::units::{Bytes, Columns};
 
 impl Call<'_> {
@@ -31,30 +30,38 @@ impl Call<'_> {
     // stays.
     fn write_rows(
         &self,
-        store: &[u32],
+        store: &mut [u32],
         marks: &mut [u8],
         out: &mut [u8],
         needed: usize,
     ) -> Result<Drawn, Refused>
-        requires { of_call Fitting self.now store.now marks.old out.old × (needed ≡ needed_of self.now store.now) }
-        ensures { of_call Draws self.now store.now marks.old out.old result store.now marks.new out.new }
+        requires { of_call Fitting self.now store.old marks.old out.old × (needed ≡ needed_of self.now store.old) }
+        ensures { of_call Draws self.now store.old marks.old out.old result store.new marks.new out.new }
     {
-        let rows = Rows {
-            store,
-            source: self.source,
-            image: self.image,
-        };
-        let bounds = Bounds {
-            max: self.args.width,
-            stop: self.args.stop,
+        let page = RulePage {
+            bounds: Bounds {
+                max: self.args.width,
+                stop: self.args.stop,
+            },
+            rule: self.args.rule,
         };
         clear_marks(marks, self.state.in_use, needed);
-        let end = run_rows(self.start_text(), self.state.row, rows, marks, out, bounds);
+        let end = run_by_rule(
+            self.start_text(),
+            self.state.row,
+            store,
+            self.source,
+            self.image,
+            marks,
+            out,
+            page,
+        );
         let left = RenderState {
             pen: end.pen,
             in_use: self.state.in_use.max(needed),
             row: self.args.stop,
             width: self.args.width,
+            rule: self.args.rule,
         };
         Ok(Drawn {
             written: Written {

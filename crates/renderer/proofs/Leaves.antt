@@ -14,7 +14,7 @@ use Rattle.renderer_rules.specs.Page.{page_of, text_bytes, text_of}
 use Rattle.renderer_rules.specs.Renderer.{Renderer, fresh_renderer, render_node, push_str, new_line, comment, text}
 use Rattle.renderer.specs.declared.writing.Writing.{Writing}
 use Rattle.renderer.specs.Writing.{Writes}
-use Rattle.renderer.specs.Output.{row_bytes}
+use Rattle.renderer_rules.specs.Page.{row_bytes}
 
 pub writes_as : (limit : ℕ) (s t : Renderer) (out : List ℕ) (p : Writing) (out2 : List ℕ) (q : Writing)
     → t ≡ s → Writes limit s out p out2 q → Writes limit t out p out2 q

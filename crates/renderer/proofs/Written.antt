@@ -122,21 +122,3 @@ text_size source image origin start size = simp (length-take, length-drop)
 
 pub text_fits : (source image : List ℕ) (origin start size : ℕ) → length (text_bytes source image (text_of origin start size)) ≤ size
 text_fits source image origin start size = let e = text_size source image origin start size in omega arith
-
--- the part of a text from `start` on, as far as it goes
-pub part_text : (t : List ℕ) (start size from end : ℕ) → from ≡ min start (length t) → end ≡ min (from + size) (length t)
-    → take (end - from) (drop from t) ≡ take size (drop start t)
-part_text t start size from end e f = go (leb start (length t)) refl
-  where
-    go : (b : Bool) → leb start (length t) ≡ b → take (end - from) (drop from t) ≡ take size (drop start t)
-    go true h =
-        let l = leb-true start (length t) h in
-        let d = length-drop start t in
-        let i : from ≡ start = omega arith in
-        let k : end - start ≡ min size (length (drop start t)) = omega arith in
-        rw (i, k) (take_min size (drop start t))
-    go false h =
-        let l = leb-false start (length t) h in
-        let i : end - from ≡ 0 = omega arith in
-        let m : length t ≤ start = omega arith in
-        rw (i, drop_of_length-le t m) (sym (take-nil size))

@@ -7,8 +7,8 @@ ghost use Rattle.rows.specs.View.{cell};
 ghost use Rattle.renderer.specs.Limits.{BEFORE_ROW};
 ghost use Rattle.renderer.specs.Writing.{WritesLeaf, WritingRoom};
 
-use crate::row_text::row_text;
 use crate::writing::Writing;
+use renderer_rules::texts::row_text;
 use rows::kinds::Kind;
 use rows::store::{str_width, text_size};
 use rows::texts::Rows;

@@ -10,6 +10,5 @@ mod marks;
 pub mod measure;
 mod open;
 pub mod output;
-mod row_text;
 pub mod run;
 pub mod writing;

@@ -1,4 +1,5 @@
 pub mod Allot
+pub mod ByRule
 pub mod Call
 pub mod Checked
 pub mod Choices
@@ -15,3 +16,4 @@ pub mod Opened
 pub mod OwnMarks
 pub mod Safe
 pub mod Widest
+pub mod RowText

@@ -20,7 +20,7 @@ use Rattle.rows.proofs.Decode.{node_line, node_empty, node_space, node_if, node_
 use Rattle.rows.proofs.Nested.{leaf_within}
 use Rattle.renderer_rules.specs.Most.{row_most, rows_most}
 use Rattle.rows.specs.Texts.{origin_text}
-use Rattle.renderer_rules.specs.Page.{text_bytes, page_of}
+use Rattle.renderer_rules.specs.Page.{text_bytes, page_with}
 use Rattle.renderer_rules.specs.declared.Pen.{Pen}
 use Rattle.renderer_rules.specs.Renderer.{Page, Renderer, with_next_indent, on_pen, push_str, at_column, new_line, margin, comment, text, insert, indent_more}
 use Rattle.renderer_rules.specs.Renderer.{indent_less, next_indent_more, next_indent_less, group_wraps, trailing_call, callee_wraps, render_node, render_nodes}
@@ -472,16 +472,16 @@ ahead_most r = go (ltb 0 r.pen.column.0) (4 * (r.pen.indent + r.pen.next_indent)
     go true n = omega arith
     go false n = omega arith
 
-text_size : (source image : List ℕ) (t : Text) → length (text_bytes source image t) ≤ t.size
+pub text_size : (source image : List ℕ) (t : Text) → length (text_bytes source image t) ≤ t.size
 unfolding text_bytes
 text_size source image t = rw (length-take t.size (drop t.start (origin_text source image t.origin))) (omega arith)
 
 -- the text of rows that nest
-pub text_most : (max : ℕ) (source image s : List ℕ) (i j d m : ℕ) → Nests (view_of s) i j d → (w : Bool) (r : Renderer) → r.buf ≡ []
+pub text_most : (max : ℕ) (columns : Text → ℕ) (source image s : List ℕ) (i j d m : ℕ) → Nests (view_of s) i j d → (w : Bool) (r : Renderer) → r.buf ≡ []
     → r.pen.indent + r.pen.next_indent ≡ m
-    → length (render_nodes (page_of max source image) (nodes_at (view_of s) i j) w r).buf ≤ 4 * m + rows_most (j - i) m s i
-text_most max source image s i j d m g w r e f =
-    let a = (renders_adds (page_of max source image) (text_size source image) (nodes_at (view_of s) i j) w m r (omega arith)).most in
+    → length (render_nodes (page_with max columns source image) (nodes_at (view_of s) i j) w r).buf ≤ 4 * m + rows_most (j - i) m s i
+text_most max columns source image s i j d m g w r e f =
+    let a = (renders_adds (page_with max columns source image) (text_size source image) (nodes_at (view_of s) i j) w m r (omega arith)).most in
     let b = rows_most_lem s m g in
     let c = ahead_most r in
     let h : length r.buf ≡ 0 = rw e in

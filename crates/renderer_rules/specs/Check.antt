@@ -1,11 +1,14 @@
 -- Refusal 11: the first row that does not nest, or has a place that is wrong.
-use Rattle.std.specs.Prelude.{◌≡◌, ℕ, zero, suc, ◌+◌, ◌*◌, ◌-◌, Bool, true, false, cond, ◌&&◌, ◌||◌, ltb, leb, eqb}
+use Rattle.std.specs.Prelude.{◌≡◌, ℕ, zero, suc, ◌+◌, ◌*◌, ◌-◌, Bool, true, false, cond, not, ◌&&◌, ◌||◌, ltb, leb, eqb}
 use Rattle.std.specs.Prelude.{List, [], ◌∷◌, length, Option, Some, None}
 use Rattle.rows.specs.Kinds.{GROUP, COMMENT, STR, ASCII, IF_WRAP, CALL, case_of}
 use Rattle.rows.specs.Places.{KIND, NUMBER, SECOND_NUMBER, SECOND, ORIGIN, START, SIZE, WIDTH, PLACES}
 use Rattle.rows.specs.Limits.{MAX_ROWS, MAX_DEPTH}
 use Rattle.rows.specs.View.{View, cell, view_of}
 use Rattle.rows.specs.Texts.{origin_text}
+use Rattle.text.specs.Utf8.{well_formed, cuts}
+use Rattle.widths.specs.Rules.{SUPPLIED}
+use Rattle.renderer_rules.specs.Page.{text_bytes, row_text}
 
 -- row b is reached from row a, row after row, in f steps at most
 unfoldable pub reaches : ℕ → View → ℕ → ℕ → Bool
@@ -106,6 +109,29 @@ places_fit source image store i =
 unfoldable pub wrong_place : List ℕ → List ℕ → List ℕ → ℕ → ℕ → Option ℕ
 wrong_place source image store from stop =
     cond (leb stop MAX_ROWS && leb (stop * PLACES) (length store)) (wrong_row_of (places_fit source image store) (view_of store) stop 0 from) (Some 0)
+
+-- ---- request 8: 11 by a rule of widths
+-- the text of row i is UTF-8, and cuts no character of its origin, neither at its start nor at its end
+unfoldable pub text_whole : List ℕ → List ℕ → List ℕ → ℕ → Bool
+text_whole source image store i =
+    let origin = origin_text source image (cell store i ORIGIN) in
+    let start = cell store i START in
+    well_formed (text_bytes source image (row_text store i)) && not (cuts origin start || cuts origin (start + cell store i SIZE))
+
+-- the text of row i, if its kind has one, is whole
+abbrev pub whole_at : List ℕ → List ℕ → List ℕ → ℕ → Bool
+whole_at source image store i = cond (uses_text (cell store i KIND)) (text_whole source image store i) true
+
+-- "under the new rule .. 11 for a text that cuts a character or isn't UTF-8": under supplied widths the places of row i as they were, else also its text
+unfoldable pub places_fit_by : ℕ → List ℕ → List ℕ → List ℕ → ℕ → Bool
+places_fit_by rule source image store i =
+    let fits = places_fit source image store i in
+    cond (eqb rule SUPPLIED) fits (fits && whole_at source image store i)
+
+-- refusal 11's place by a rule
+unfoldable pub wrong_place_by : ℕ → List ℕ → List ℕ → List ℕ → ℕ → ℕ → Option ℕ
+wrong_place_by rule source image store from stop =
+    cond (leb stop MAX_ROWS && leb (stop * PLACES) (length store)) (wrong_row_of (places_fit_by rule source image store) (view_of store) stop 0 from) (Some 0)
 
 -- Where a `Call`'s second part is its end, a part that goes past that end is at fault, and not the `Call`.
 abbrev pub FaultOfPart : Type 0

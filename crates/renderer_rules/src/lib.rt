@@ -1,6 +1,8 @@
 // The rules of rendering, and the machine that follows them with a list of open rows.
 #![tactic(auto)]
 
+pub mod texts;
+
 ghost use Rattle.std.specs.Prelude.{◌≡◌, ◌+◌, ◌≤◌, ◌<◌, ◌^◌, true};
 ghost use Rattle.renderer_rules.specs.Renderer.{indent_more, indent_less, next_indent_more, next_indent_less, on_new_line};
 

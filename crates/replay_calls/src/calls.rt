@@ -11,8 +11,8 @@ use stored_answers::numbers::{Reader, past};
 use stored_answers::parts::Parts;
 use stored_answers::report::{count, number_of};
 
-// How many answers a call can have: accepted, or a number up to 15. Those of rendering calls are counted behind those of layout calls.
-pub(crate) const ANSWERS: usize = 16;
+// How many answers a call can have: accepted, or a number up to 20. Those of rendering calls are counted behind those of layout calls.
+pub(crate) const ANSWERS: usize = 21;
 
 // The states that the calls so far left, the bytes that they wrote, and the first difference.
 #[derive(Clone, Copy)]
@@ -128,17 +128,19 @@ impl World<'_, '_, '_, '_, '_> {
         )
     }
 
-    // Runs the next stored call: which it is, where it stops, whether it closes or its output's size, its mode or width, and its answer.
+    // Runs the next stored call: which it is, where it stops, whether it closes or its output's size, its mode or width, its rule, and its answer.
     fn call(&mut self, answers: &mut Reader) -> Result<(), Difference> {
         let kind = answers.byte();
         let stop = answers.long();
         let argument = answers.long();
         let choice = answers.long();
+        let rule = answers.eight();
         if kind == 0 {
             let args = LayoutArgs {
                 stop,
                 close: argument != 0,
                 mode: choice,
+                rule,
             };
             let stored = read_stored(answers, |answers| layout_state(answers));
             return self.lay(args, stored);
@@ -146,6 +148,7 @@ impl World<'_, '_, '_, '_, '_> {
         let args = RenderArgs {
             stop,
             width: Columns(choice),
+            rule,
         };
         let stored = read_stored(answers, |answers| render_state(answers));
         self.render(args, argument, stored)

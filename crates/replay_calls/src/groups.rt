@@ -10,7 +10,7 @@ pub(crate) fn calls(rt: &impl Print, answers: &[u8]) {
     let mut store: [u32; 16384] = filled(0);
     let mut marks: [u8; 4096] = filled(0);
     let mut text: [u8; 1114112] = filled(0);
-    let mut counts = [0usize; 32];
+    let mut counts = [0usize; 42];
     let mut buffers = cases::Buffers {
         store: &mut store,
         marks: &mut marks,

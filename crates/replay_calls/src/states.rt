@@ -15,6 +15,7 @@ pub(crate) fn layout_state(answers: &mut Reader) -> LayoutState {
         placed: answers.long(),
         position: answers.long(),
         mode: answers.long(),
+        rule: answers.long(),
     }
 }
 
@@ -28,5 +29,6 @@ pub(crate) fn render_state(answers: &mut Reader) -> RenderState {
         in_use: answers.long(),
         row: answers.long(),
         width: Columns(answers.long()),
+        rule: answers.long(),
     }
 }

@@ -24,7 +24,7 @@ pub(crate) fn frames(rt: &impl Print, answers: &[u8]) {
 
 // Batches of files.
 pub(crate) fn batches(rt: &impl Print, answers: &[u8]) {
-    let mut files = [0usize; 16];
+    let mut files = [0usize; 21];
     let mut batches = [0usize; 20];
     let mut counts = Counts {
         files: &mut files,

@@ -10,6 +10,7 @@ use rows::units::Columns;
 use stored_answers::difference::{Difference, unless};
 use stored_answers::numbers::{Reader, past};
 use stored_answers::parts::Parts;
+use widths::rules::SUPPLIED;
 
 // The longest frame there may be.
 const LONGEST: usize = 32768;
@@ -57,6 +58,7 @@ fn lay(
         stop,
         close,
         mode: OLD_MODE,
+        rule: SUPPLIED,
     };
     match layout_call(parts.source, parts.image, store, state, args) {
         Ok(laid) => Ok(laid),
@@ -92,6 +94,7 @@ fn by_declarations(accepted: &Accepted, parts: Parts, b: &mut Buffers) -> Result
     let args = RenderArgs {
         stop: laid.state.row,
         width: Columns(REFERENCE_WIDTH),
+        rule: SUPPLIED,
     };
     let Ok(written) = render_call(
         parts.source,
@@ -119,6 +122,7 @@ fn refused_found(stored: &Stored, parts: Parts, store: &mut [u32]) -> Result<(),
         stop: 0,
         close: false,
         mode: OLD_MODE,
+        rule: SUPPLIED,
     };
     match layout_call(
         parts.source,

@@ -1,15 +1,18 @@
 // Refusal 11: the check of rows before they are rendered.
 #![tactic(auto)]
 
+mod whole;
+
 ghost use Rattle.std.specs.Prelude.{◌≡◌, ◌&&◌, ◌||◌, ◌+◌, ◌*◌, ◌-◌, ◌≤◌, ◌<◌, length, eqb};
 ghost use Rattle.rows.specs.Kinds.{number_of};
 ghost use Rattle.rows.specs.Places.{KIND, AFTER, PLACES};
 ghost use Rattle.rows.specs.Limits.{MAX_ROWS};
 ghost use Rattle.rows.specs.View.{cell, view_of};
-ghost use Rattle.renderer_rules.specs.Check.{reaches, has_two, is_split, parts_fit, text_fits, places_fit, row_fits_of, wrong_row_of, wrong_place};
+ghost use Rattle.renderer_rules.specs.Check.{reaches, has_two, is_split, parts_fit, text_fits, places_fit, row_fits_of, wrong_row_of, wrong_place, wrong_place_by};
 ghost use Rattle.refusals.specs.Refusals.{refuse_at};
 ghost use Rattle.refusals.specs.Reasons.{refusal_in};
 
+use crate::whole::first_torn;
 use arrayvec::ArrayVec;
 use refusals::{Reason, Refused};
 use rows::kinds::Kind;
@@ -18,6 +21,7 @@ use rows::origins::Origin;
 use rows::places::{AFTER, NUMBER, ORIGIN, PLACES, SECOND, SECOND_NUMBER, SIZE, START, WIDTH};
 use rows::store::{place, row_kind};
 use rows::texts::Rows;
+use widths::rules::SUPPLIED;
 
 // Whether row b is reached from row a, row after row.
 // kept: a loop, since each next row is read from the last one. An iterator would have this loop in it, and its invariant, for this use alone.
@@ -152,6 +156,7 @@ fn row_fits(rows: Rows<'_>, end: usize, depth: usize, row: usize) -> bool
 }
 
 // The first row from `from` up to `stop` that is not right. `ends` has where the rows around the open part end.
+#[inline(never)]
 fn wrong_row(rows: Rows<'_>, from: usize, stop: usize) -> Option<usize>
     requires { (stop * PLACES ≤ length rows.store.now) × (stop ≤ MAX_ROWS) }
     ensures { result ≡ wrong_row_of (places_fit rows.entry.source.now rows.entry.image.now rows.entry.store.now) (view_of rows.entry.store.now) stop 0 from }
@@ -180,14 +185,32 @@ fn wrong_row(rows: Rows<'_>, from: usize, stop: usize) -> Option<usize>
     }
 }
 
-// Refusal 11: whether the rows from `from` up to `stop` may be rendered; place 0 for the stop.
-pub fn check_rows(rows: Rows<'_>, from: usize, stop: usize) -> Result<(), Refused>
-    ensures { refusal_in result ≡ refuse_at (wrong_place rows.entry.source.now rows.entry.image.now rows.entry.store.now from stop) 11 }
+// The first row from `from` up to `stop` that is not right, whatever its text holds; row 0 where the stop is past the store or the limit.
+fn wrong_place(rows: Rows<'_>, from: usize, stop: usize) -> Option<usize>
+    ensures { result ≡ wrong_place rows.entry.source.now rows.entry.image.now rows.entry.store.now from stop }
 {
     if MAX_ROWS < stop || rows.store.len() < stop * PLACES {
-        return Err(Reason::Rows.at(0));
+        return Some(0);
     }
-    match wrong_row(rows, from, stop) {
+    wrong_row(rows, from, stop)
+}
+
+// The same by a rule of widths: where these are not supplied, a second pass looks at the texts of the rows before the one that is wrong.
+fn wrong_by(rows: Rows<'_>, from: usize, stop: usize, rule: usize) -> Option<usize>
+    ensures { result ≡ wrong_place_by rule rows.entry.source.now rows.entry.image.now rows.entry.store.now from stop }
+{
+    let wrong = wrong_place(rows, from, stop);
+    if rule == SUPPLIED {
+        return wrong;
+    }
+    first_torn(rows, from, wrong.unwrap_or(stop)).or(wrong)
+}
+
+// Refusal 11 by a rule of widths: whether the rows from `from` up to `stop` may be rendered; place 0 for the stop.
+pub fn check_rows(rows: Rows<'_>, from: usize, stop: usize, rule: usize) -> Result<(), Refused>
+    ensures { refusal_in result ≡ refuse_at (wrong_place_by rule rows.entry.source.now rows.entry.image.now rows.entry.store.now from stop) 11 }
+{
+    match wrong_by(rows, from, stop, rule) {
         Some(row) => Err(Reason::Rows.at(row)),
         None => Ok(()),
     }

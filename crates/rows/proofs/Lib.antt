@@ -2,6 +2,7 @@ pub mod Decode
 pub mod Flatten
 pub mod KindOf
 pub mod LastFirst
+pub mod LowWords
 pub mod MustWrap
 pub mod Nested
 pub mod OriginText

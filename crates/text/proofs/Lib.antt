@@ -1,8 +1,10 @@
 pub mod Boundaries
 pub mod Bytes
 pub mod Characters
+pub mod Checked
 pub mod CommentEnds
 pub mod Counts
+pub mod Cuts
 pub mod LastNewline
 pub mod Parts
 pub mod Prefixes

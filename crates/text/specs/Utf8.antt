@@ -78,6 +78,14 @@ ill_formed s = refuse_if (not (well_formed s)) 2 (prefix s)
 unfoldable pub boundary : List ℕ → ℕ → Bool
 boundary s at = leb at (length s) && not (continues (get_or s at 0))
 
+-- a character of s starts k bytes before `at` and ends behind it
+abbrev pub reaches_over : List ℕ → ℕ → ℕ → Bool
+reaches_over s at k = leb k at && ltb k (sequence s (at - k))
+
+-- A text that starts or ends at `at` cuts a character of s. (A character has four bytes at most.)
+unfoldable pub cuts : List ℕ → ℕ → Bool
+cuts s at = reaches_over s at 1 || reaches_over s at 2 || reaches_over s at 3
+
 -- The code point that a sequence of n bytes at `at` stands for: table 3-6, "UTF-8 Bit Distribution".
 unfoldable pub scalar : List ℕ → ℕ → ℕ → ℕ
 scalar s at n =

@@ -2,7 +2,7 @@
 ghost use Rattle.std.specs.Prelude.{◌≡◌, ◌+◌, ◌≤◌, ◌<◌, length, get_or};
 ghost use Rattle.refusals.specs.Reasons.{refusal_in};
 ghost use Rattle.text.specs.Utf8.{row_of, within, continues, sequence, highs, plain, stride, some_bytes, ill_formed};
-ghost use Rattle.text.specs.Utf8.{boundary, scalar, char_at, ends, ending, char_before};
+ghost use Rattle.text.specs.Utf8.{well_formed, reaches_over, cuts, boundary, scalar, char_at, ends, ending, char_before};
 
 use refusals::{Reason, Refused};
 
@@ -115,6 +115,29 @@ pub fn check(s: &[u8]) -> Result<(), Refused>
     Ok(())
 }
 
+// Whether a text is well-formed.
+#[tactic(auto, using(crate::proofs::Checked::checked))]
+pub fn is_well_formed(s: &[u8]) -> bool
+    ensures { result ≡ well_formed s.now }
+{
+    check(s).is_ok()
+}
+
+// Whether a character starts k bytes before `at` and ends behind it.
+fn is_over(s: &[u8], at: usize, k: usize) -> bool
+    ensures { result ≡ reaches_over s.now at k }
+{
+    k <= at && matches!(sequence(s, at - k), Some(bytes) if k < bytes)
+}
+
+// Whether a text that starts or ends at `at` cuts a character.
+#[tactic(auto, unfolding(crate::specs::Utf8::cuts))]
+pub fn is_cut(s: &[u8], at: usize) -> bool
+    ensures { result ≡ cuts s.now at }
+{
+    is_over(s, at, 1) || is_over(s, at, 2) || is_over(s, at, 3)
+}
+
 // A character boundary: the end of the text, or a byte that starts a sequence.
 #[tactic(auto, using(std::proofs::lemmas::Bool::Decides::nat_tests), unfolding(crate::specs::Utf8::boundary))]
 pub(crate) fn is_boundary(s: &[u8], at: usize) -> bool
@@ -146,6 +169,7 @@ fn code_point(s: &[u8], at: usize, n: usize) -> u32
 }
 
 // The character that starts at `at`.
+#[inline(always)]
 #[tactic(auto, using(crate::proofs::Characters::sequence_inside), unfolding(crate::specs::Utf8::char_at, crate::specs::Utf8::decoded))]
 pub fn char_at(s: &[u8], at: usize) -> Option<Char>
     ensures { result ≡ char_at s.now at }

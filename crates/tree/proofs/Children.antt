@@ -3,21 +3,26 @@
 -- Assumes nothing.
 use mathlib.Core.Path.{◌≡◌, refl, sym, ap, ◌∙◌, subst}
 use mathlib.Core.List.{List, [], ◌∷◌}
-use mathlib.Core.Bool.{Bool, true, false, cond, ◌&&◌}
+use mathlib.Core.Bool.{Bool, true, false, cond, ◌&&◌, false≢true}
 use mathlib.Core.Logic.{⊎_elim}
 use Prim.Native.Nat.{ℕ, zero, suc, ◌+◌, ◌/◌, ◌%◌, ◌≤◌, ◌<◌}
 use native.Mathlib.Omega.{arith}
-use lib.ListN.{length}
-use lib.Dec.{leb, eqb}
-use borrow.Author.Tests.{leb-true, eqb-true, eqb-false}
+use lib.ListN.{length, get_or}
+use lib.Dec.{leb, ltb, eqb}
+use borrow.Author.Tests.{leb-true, ltb-true, ltb-false, lt-ltb, eqb-true, eqb-false}
+use Rattle.text.specs.Utf8.{within}
 use Rattle.text.specs.Newlines.{is_range}
 use Rattle.laws.proofs.Booleans.{and_left, and_right}
 use Rattle.image.specs.Bytes.{be32}
-use Rattle.image.specs.Grammar.{is_list, is_optional, is_many, bare, place, row_under_of, kind_fits_of, payload_fits, first_child}
-use Rattle.image.specs.Read.{Read, got, Tree, Trees, absent, node, nil, ◌▸◌, stop_at, kind_at, head_at, skips, child_at, record_at, children_at}
-use Rattle.image.proofs.Shapes.{opened_order, skips_within}
+use Rattle.image.specs.Grammar.{is_list, is_optional, is_many, bare, place, after, complete, row_under_of, kind_fits_of, payload_fits, first_child}
+use Rattle.image.specs.Read.{Read, got, bad, bind, Tree, Trees, absent, node, nil, ◌▸◌, stop_at, kind_at, head_at, skips, child_at, record_at, children_at}
+use Rattle.image.proofs.Shapes.{is_got, opened_order, skips_within}
 use Rattle.image.proofs.Inside.{Split, must, none_left, any_number, inside, none_deep}
-use Rattle.tree.specs.At.{Absent, Before, Done, Head}
+use Rattle.tree.specs.At.{Absent, Before, Clear, Done, Head}
+
+-- 2 ^ 24: a length below it has 0 for its first byte
+abbrev pub THREE_BYTES : ℕ
+THREE_BYTES = 16777216
 
 -- cases one after the other
 infixr 10 ◌∣◌
@@ -79,6 +84,8 @@ module _ (s b : List ℕ) where
     pub reads : record_at s b 2 d p at end ≡ got t (stop_at b at)
     pub within : stop_at b at ≤ end
     pub far : end ≤ length b
+    pub small : length b < THREE_BYTES
+    pub clear : Clear b (stop_at b at)
 
   -- the same where it may be absent
   pub data Perhaps (d p at end : ℕ) : Tree → Type 0 where
@@ -111,11 +118,69 @@ module _ (s b : List ℕ) where
     pub same : ts ≡ trees d ps at end kids
 
   -- ---- what was read below a record
-  pub kid : (d p at end : ℕ) (t : Tree) (q : ℕ) → end ≤ length b → record_at s b 2 d p at end ≡ got t q → (q ≡ stop_at b at) × Kid d p at end t
-  kid zero p at end t q far h = absurd (none_deep s b 2 p at end t q h)
-  kid (suc d) p at end t q far h =
+  -- the byte behind it is clear, once it is known where it ends
+  abbrev Clears : ℕ → ℕ → ℕ → Type 0
+  Clears at end q = stop_at b at ≤ end → q ≡ stop_at b at → Clear b (stop_at b at)
+
+  pub kid : (d p at end : ℕ) (t : Tree) (q : ℕ) → end ≤ length b → length b < THREE_BYTES → Clears at end q → record_at s b 2 d p at end ≡ got t q
+      → (q ≡ stop_at b at) × Kid d p at end t
+  kid zero p at end t q far small clears h = absurd (none_deep s b 2 p at end t q h)
+  kid (suc d) p at end t q far small clears h =
+      let i = inside s b 2 d p at end t q h in (
+        i.stop,
+        record {
+          reads = h ∙ ap (got t) i.stop;
+          within = i.held.right.within;
+          far = far;
+          small = small;
+          clear = clears i.held.right.within i.stop;
+        },
+      )
+
+  -- ---- the byte at a child: the first of its length, which is below 2 ^ 24
+  first_read : (one : ℕ → ℕ → ℕ → Read Tree) (n row at stop : ℕ) (ts : Trees) (e : ℕ) → at < stop → children_at one n row at stop ≡ got ts e
+      → (t : Tree) × (q : ℕ) × (one (place row) at stop ≡ got t q)
+  unfolding children_at
+  first_read one zero row at stop ts e l h = absurd (false≢true (ap is_got h))
+  first_read one (suc n) row at stop ts e l h = go (ltb at stop) (lt-ltb at stop l) (eqb row 0) (one (place row) at stop) refl h
+    where
+      go : (x : Bool) → x ≡ true → (y : Bool) (r : Read Tree) → one (place row) at stop ≡ r
+          → cond x (cond y (bad 4 at) (bind r (λ t next. bind (children_at one n (after row) next stop) (λ us end. got (t ▸ us) end))))
+          (cond (complete row) (got nil stop) (bad 4 at))
+          ≡ got ts e
+          → (t : Tree) × (q : ℕ) × (one (place row) at stop ≡ got t q)
+      go true x true r o h = absurd (false≢true (ap is_got h))
+      go true x false (got t q) o h = (t, q, o)
+      go true x false (bad m q) o h = absurd (false≢true (ap is_got h))
+      go false x y r o h = absurd (false≢true x)
+
+  low_byte : (at : ℕ) → be32 b at < THREE_BYTES → Clear b at
+  unfolding be32 within
+  low_byte at l = let z : get_or b at 0 ≡ 0 = omega arith in record { starts = rw z }
+
+  record_low : (d p at end : ℕ) (t : Tree) (q : ℕ) → end ≤ length b → length b < THREE_BYTES → record_at s b 2 d p at end ≡ got t q → Clear b at
+  record_low zero p at end t q far small h = absurd (none_deep s b 2 p at end t q h)
+  record_low (suc d) p at end t q far small h =
       let i = inside s b 2 d p at end t q h in
-      (i.stop, record { reads = h ∙ ap (got t) i.stop; within = i.held.right.within; far = far })
+      low_byte at (omega (arith, i.held.right.within))
+
+  child_low : (d p at end : ℕ) (t : Tree) (q : ℕ) → end ≤ length b → length b < THREE_BYTES → child_at s b 2 d p at end ≡ got t q → Clear b at
+  child_low d p at end t q far small h = go (skips b p at end) refl h
+    where
+      go : (x : Bool) → skips b p at end ≡ x → cond x (got absent (at + 4)) (record_at s b 2 d (bare p) at end) ≡ got t q → Clear b at
+      go true e h = low_byte at (omega (arith, (skips_within b p at end e).1))
+      go false e h = record_low d (bare p) at end t q far small h
+
+  -- so it is of what stands behind a child: the next one, or the parent's end
+  pub clear_at : (d n row at end : ℕ) (ts : Trees) (e : ℕ) → end ≤ length b → length b < THREE_BYTES → Clear b end → at ≤ end
+      → children_at (child_at s b 2 d) n row at end ≡ got ts e → Clear b at
+  clear_at d n row at end ts e far small c le h = go (ltb at end) refl
+    where
+      go : (x : Bool) → ltb at end ≡ x → Clear b at
+      go true l =
+          let r = first_read (child_at s b 2 d) n row at end ts e (ltb-true at end l) h in
+          child_low d (place row) at end r.0 r.1 far small r.2
+      go false l = let same : at ≡ end = omega (arith, ltb-false at end l) in rw same c
 
   -- no record is absent, and no children are a child with others
   not_absent : (d p at end : ℕ) → Kid d p at end absent → ⊥
@@ -139,8 +204,9 @@ module _ (s b : List ℕ) where
     within : stop_at b at ≤ end
     is : Perhaps d (bare p) at end t
 
-  child : (d p at end : ℕ) (t : Tree) (q : ℕ) → end ≤ length b → child_at s b 2 d p at end ≡ got t q → Child d p at end t q
-  child d p at end t q far h = go (skips b p at end) refl h
+  child : (d p at end : ℕ) (t : Tree) (q : ℕ) → end ≤ length b → length b < THREE_BYTES → Clears at end q → child_at s b 2 d p at end ≡ got t q
+      → Child d p at end t q
+  child d p at end t q far small clears h = go (skips b p at end) refl h
     where
       go : (x : Bool) → skips b p at end ≡ x → cond x (got absent (at + 4)) (record_at s b 2 d (bare p) at end) ≡ got t q → Child d p at end t q
       go true e h =
@@ -153,7 +219,7 @@ module _ (s b : List ℕ) where
             is = rw (← is) (gone (record { zero = w.1; fits = omega (arith, w.0) }) w.0);
           }
       go false e h =
-          let k = kid d (bare p) at end t q far h in
+          let k = kid d (bare p) at end t q far small clears h in
           record { stop = k.0; within = k.1.within; is = is_here d (bare p) at end t k.1 }
 
   -- where the place is not optional, a record stands there
@@ -161,13 +227,14 @@ module _ (s b : List ℕ) where
   unfolding skips
   plain d p at end e = simp e
 
-  elements : (d row end : ℕ) (ts : Trees) (n at : ℕ) → end ≤ length b → at ≤ end → ¬ (row ≡ 0) → is_many row ≡ true → is_optional (place row) ≡ false
+  elements : (d row end : ℕ) (ts : Trees) (n at : ℕ) → end ≤ length b → length b < THREE_BYTES → Clear b end → at ≤ end → ¬ (row ≡ 0)
+      → is_many row ≡ true → is_optional (place row) ≡ false
       → children_at (child_at s b 2 d) n row at end ≡ got ts end → Elements d (bare (place row)) end ts at
-  elements d row end nil n at far le z m f h =
+  elements d row end nil n at far small c le z m f h =
       ⊎_elim (λ x. record { same = omega (arith, x.1) }) (λ x. absurd (empty _ _ x.1.cons))
       (any_number (child_at s b 2 d) n row at end nil end z m h)
-  elements d row end (t ▸ ts) n at far le z m f h =
-      ⊎_elim (λ x. absurd (empty _ _ (sym x.0))) (λ x. go x.1 (λ n at le. elements d row end ts n at far le z m f))
+  elements d row end (t ▸ ts) n at far small clear le z m f h =
+      ⊎_elim (λ x. absurd (empty _ _ (sym x.0))) (λ x. go x.1 (λ n at le. elements d row end ts n at far small clear le z m f))
       (any_number (child_at s b 2 d) n row at end (t ▸ ts) end z m h)
     where
       go : Split (child_at s b 2 d) (place row) row at end (t ▸ ts) end
@@ -177,7 +244,10 @@ module _ (s b : List ℕ) where
           let e₁ : c.head ≡ t = cc c.cons in
           let e₂ : c.tail ≡ ts = cc c.cons in
           let read = sym (plain d (place row) at end f) ∙ c.reads ∙ ap (λ (u : Tree). got u c.next) e₁ in
-          let k = kid d (bare (place row)) at end t c.next far read in
+          let clears : Clears at end c.next =
+          λ w q. rw (← q) (clear_at d c.turns row c.next end c.tail end far small clear (omega arith) c.more)
+          in
+          let k = kid d (bare (place row)) at end t c.next far small clears read in
           (k.1, more c.turns (stop_at b at) k.1.within (rw (← k.0) (c.more ∙ ap (λ (us : Trees). got us end) e₂)))
 
   -- the children that were read, at the places of the row
@@ -185,24 +255,30 @@ module _ (s b : List ℕ) where
   Reads d ps row end =
       (turns at : ℕ) (ts : Trees) → at ≤ end → children_at (child_at s b 2 d) turns row at end ≡ got ts end → Apart d ps at end ts
 
-  first_due : (d : ℕ) (ps : List Place) (p row at end : ℕ) (ts : Trees) → end ≤ length b → is_optional p ≡ false
+  first_due : (d : ℕ) (ps : List Place) (p row at end : ℕ) (ts : Trees) → end ≤ length b → length b < THREE_BYTES → Clear b end → is_optional p ≡ false
       → Split (child_at s b 2 d) p row at end ts end → Reads d ps row end → Apart d (due (bare p) ∷ ps) at end ts
-  first_due d ps p row at end ts far o c more =
-      let k = kid d (bare p) at end c.head c.next far (sym (plain d p at end o) ∙ c.reads) in
+  first_due d ps p row at end ts far small clear o c more =
+      let clears : Clears at end c.next =
+      λ w q. rw (← q) (clear_at d c.turns row c.next end c.tail end far small clear (omega arith) c.more)
+      in
+      let k = kid d (bare p) at end c.head c.next far small clears (sym (plain d p at end o) ∙ c.reads) in
       let a = more c.turns (stop_at b at) c.tail k.1.within (rw (← k.0) c.more) in
       record { kids = (c.head, k.1, a.kids); same = c.cons ∙ ap (λ (us : Trees). c.head ▸ us) a.same }
 
-  first_maybe : (d : ℕ) (ps : List Place) (p row at end : ℕ) (ts : Trees) → end ≤ length b
+  first_maybe : (d : ℕ) (ps : List Place) (p row at end : ℕ) (ts : Trees) → end ≤ length b → length b < THREE_BYTES → Clear b end
       → Split (child_at s b 2 d) p row at end ts end → Reads d ps row end → Apart d (maybe (bare p) ∷ ps) at end ts
-  first_maybe d ps p row at end ts far c more =
-      let k = child d p at end c.head c.next far c.reads in
+  first_maybe d ps p row at end ts far small clear c more =
+      let clears : Clears at end c.next =
+      λ w q. rw (← q) (clear_at d c.turns row c.next end c.tail end far small clear (omega arith) c.more)
+      in
+      let k = child d p at end c.head c.next far small clears c.reads in
       let a = more c.turns (stop_at b at) c.tail k.within (rw (← k.stop) c.more) in
       record { kids = (c.head, k.is, a.kids); same = c.cons ∙ ap (λ (us : Trees). c.head ▸ us) a.same }
 
-  pub apart : (d n row end : ℕ) → end ≤ length b → Reads d (places n row) row end
-  apart d zero row end far turns at ts le h = record { kids = ts; same = refl }
-  apart d (suc n) row end far turns at ts le h =
-      go (eqb row 0) refl (is_many row) refl (is_optional (place row)) refl (apart d n (row / 65536) end far)
+  pub apart : (d n row end : ℕ) → end ≤ length b → length b < THREE_BYTES → Clear b end → Reads d (places n row) row end
+  apart d zero row end far small clear turns at ts le h = record { kids = ts; same = refl }
+  apart d (suc n) row end far small clear turns at ts le h =
+      go (eqb row 0) refl (is_many row) refl (is_optional (place row)) refl (apart d n (row / 65536) end far small clear)
     where
       go : (x : Bool) → eqb row 0 ≡ x → (y : Bool) → is_many row ≡ y → (z : Bool) → is_optional (place row) ≡ z
           → Reads d (places n (row / 65536)) (row / 65536) end
@@ -214,11 +290,11 @@ module _ (s b : List ℕ) where
           let k = none_left (child_at s b 2 d) turns at end ts end (rw (eqb-true row 0 e) at h) in
           record { kids = record { same = omega (arith, k.1) }; same = k.0 }
       go false e true m true o more = record { kids = ts; same = refl }
-      go false e true m false o more = record { kids = (ts, elements d row end ts turns at far le (eqb-false row 0 e) m o h); same = refl }
+      go false e true m false o more = record { kids = (ts, elements d row end ts turns at far small clear le (eqb-false row 0 e) m o h); same = refl }
       go false e false m true o more =
-          first_maybe d _ (place row) (row / 65536) at end ts far (rw m at (must (child_at s b 2 d) turns row at end ts end (rw (e, m)) h)) more
+          first_maybe d _ (place row) (row / 65536) at end ts far small clear (rw m at (must (child_at s b 2 d) turns row at end ts end (rw (e, m)) h)) more
       go false e false m false o more =
-          first_due d _ (place row) (row / 65536) at end ts far o (rw m at (must (child_at s b 2 d) turns row at end ts end (rw (e, m)) h)) more
+          first_due d _ (place row) (row / 65536) at end ts far small clear o (rw m at (must (child_at s b 2 d) turns row at end ts end (rw (e, m)) h)) more
 
   -- ---- one record
   -- the head of the record at `at`, were its kind k
@@ -239,6 +315,7 @@ module _ (s b : List ℕ) where
     pub long : 9 ≤ be32 b at
     pub within : stop_at b at ≤ end
     pub far : end ≤ length b
+    pub clear : Clear b (stop_at b at)
     pub payload : payload_fits b 2 p k (at + 13) (stop_at b at) ≡ true
     pub span : is_range s (be32 b (at + 5)) (be32 b (at + 9)) ≡ true
     pub kids : Kids d (places 5 (row_under_of p k)) (first_child k (at + 13) (stop_at b at)) (stop_at b at)
@@ -251,7 +328,8 @@ module _ (s b : List ℕ) where
   opened d p at end t k =
       let i = inside s b 2 d p at end t _ k.reads in
       let o = i.held in
-      let a = apart d 5 (row_under_of p (kind_at b at)) (stop_at b at) (omega (arith, k.within, k.far)) _ _ i.trees (opened_order o) i.kept in (
+      let far : stop_at b at ≤ length b = omega (arith, k.within, k.far) in
+      let a = apart d 5 (row_under_of p (kind_at b at)) (stop_at b at) far k.small k.clear _ _ i.trees (opened_order o) i.kept in (
         o.right.kind,
         (
           record {
@@ -259,6 +337,7 @@ module _ (s b : List ℕ) where
             long = o.right.long;
             within = k.within;
             far = k.far;
+            clear = k.clear;
             payload = o.right.payload;
             span = o.span;
             kids = a.kids;

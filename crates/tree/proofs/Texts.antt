@@ -28,11 +28,25 @@ module _ (s b : List ℕ) where
   text_fits : (at stop : ℕ) → leb (at + 13 + 2) stop && well_formed (part (at + 13 + 2) stop b) ≡ true → at + 15 + (stop - (at + 15)) ≡ stop
   text_fits at stop e = let l = leb-true (at + 13 + 2) stop (and_left _ _ e) in omega arith
 
+  text_formed : (at stop : ℕ) → leb (at + 13 + 2) stop && well_formed (part (at + 13 + 2) stop b) ≡ true → well_formed (part (at + 15) stop b) ≡ true
+  text_formed at stop e = let same : at + 15 ≡ at + 13 + 2 = omega arith in rw same (and_right (leb (at + 13 + 2) stop) _ e)
+
   pub ident : (d : ℕ) → All s b d 2 (λ t at. IdentAt s b (views b t).ident at)
   unfolding views row_under_of row_of first_child payload_fits
   ident =
       always s b 2 (λ t at. IdentAt s b (views b t).ident at)
-      (λ d at end. (λ n. record { head = head s b n; wide = refl; starts = refl; ends = text_fits at (stop_at b at) n.payload }) ∣ tt)
+      (λ d at end.
+      (λ n.
+      let stop = stop_at b at in
+      record {
+        head = head s b n;
+        wide = refl;
+        starts = refl;
+        ends = text_fits at stop n.payload;
+        formed = text_formed at stop n.payload;
+        clear = n.clear;
+      })
+      ∣ tt)
 
   texts : (d end at : ℕ) (c : (ts : Trees) × Elements s b d 2 end ts at) → IdentsAt s b (idents (each b c.0)) at end
   unfolding views IdentsAt

@@ -3,18 +3,19 @@
 use mathlib.Core.Path.{◌≡◌, sym, ap}
 use mathlib.Core.List.{List}
 use mathlib.Core.Bool.{Bool, true, false, cond, not, false≢true}
-use Prim.Native.Nat.{ℕ}
+use Prim.Native.Nat.{ℕ, ◌<◌}
 use native.Mathlib.Omega.{arith}
-use lib.ListN.{length}
+use lib.ListN.{length, get_or, get_or-eq_default}
 use lib.Dec.{lit≤}
 use Rattle.text.specs.Utf8.{prefix, well_formed}
 use Rattle.image.specs.Grammar.{any_declaration, row_of, row_under_of, first_child}
 use Rattle.image.specs.Read.{got, bad, Tree, Trees, Image, stop_at, tree_at, read_image, source_fits, read_all, document_of, outcome}
 use Rattle.image.proofs.Shapes.{is_got}
 use Rattle.image.proofs.Accepted.{Root, rooted}
-use Rattle.tree.specs.At.{IdentAt, DeclarationsAt, TreeAt}
+use Rattle.text.specs.Utf8.{within}
+use Rattle.tree.specs.At.{Clear, IdentAt, DeclarationsAt, TreeAt}
 use Rattle.tree.specs.Records.{views, each, declarations, syntax_tree}
-use Rattle.tree.proofs.Children.{◌∣◌, Elements, All, all, kid, head, before, perhaps_before, run}
+use Rattle.tree.proofs.Children.{THREE_BYTES, ◌∣◌, Elements, All, all, kid, head, before, perhaps_before, run}
 use Rattle.tree.proofs.Texts.{optional, ident}
 use Rattle.tree.proofs.Declarations.{declaration_at}
 
@@ -45,14 +46,18 @@ module _ (s b : List ℕ) where
       ∣ tt)
 
   -- a tree that was read up to the image's end
-  pub tree_at_lem : (at : ℕ) (t : Tree) → tree_at s b 2 1 at ≡ got t (length b) → TreeAt s b (syntax_tree b t) at
+  end_clear : Clear b (length b)
+  unfolding within
+  end_clear = let z : get_or b (length b) 0 ≡ 0 = get_or-eq_default b 0 (omega arith) in record { starts = rw z }
+
+  pub tree_at_lem : (at : ℕ) (t : Tree) → length b < THREE_BYTES → tree_at s b 2 1 at ≡ got t (length b) → TreeAt s b (syntax_tree b t) at
   unfolding tree_at
-  tree_at_lem at t h =
-      let k = kid s b 64 1 at (length b) t (length b) (omega arith) h in
+  tree_at_lem at t small h =
+      let k = kid s b 64 1 at (length b) t (length b) (omega arith) small (λ w q. rw (← q) end_clear) h in
       one_tree at (length b) t k.1 (sym k.0)
 
   pub root_at : (ordered : Bool) (n at : ℕ) (r : Root ordered s b n at) → TreeAt s b (syntax_tree b r.tree) at
-  root_at ordered n at r = tree_at_lem at r.tree r.reads
+  root_at ordered n at r = tree_at_lem at r.tree (omega (arith, r.head.size, r.head.short)) r.reads
 
   -- The tree of an accepted image, whichever rule its comment list was read by.
   pub image_stands : (ordered : Bool) (i : Image) (q : ℕ) → read_image ordered s b ≡ got i q → TreeAt s b (syntax_tree b i.tree) i.at

@@ -1,8 +1,9 @@
 -- Which part of the syntax tree is at which offset of the image: what the contracts of layout's code rest on. An accepted image has its whole tree
 -- at the tree's offset (proofs/Whole.antt).
-use Rattle.std.specs.Prelude.{ℕ, ◌+◌, ◌≤◌, ◌<◌, ◌≡◌, true, List, [], ◌∷◌, length, get_or, Option, None, Some}
+use Rattle.std.specs.Prelude.{ℕ, ◌+◌, ◌≤◌, ◌<◌, ◌≡◌, true, false, List, [], ◌∷◌, length, get_or, Option, None, Some}
+use Rattle.text.specs.Utf8.{well_formed, continues}
 use Rattle.text.specs.Newlines.{is_range}
-use Rattle.image.specs.Bytes.{be16, be32}
+use Rattle.image.specs.Bytes.{be16, be32, part}
 use Rattle.image.specs.Read.{stop_at, kind_at}
 use Rattle.image.specs.Limits.{MAX_RECORDS_DEEP}
 use Rattle.image.specs.Kinds.{ARM, BLOCK, CONST, ENUM, ENUM_VARIANT, EXPR_PART, FIELD, FILTER_MAP, FUNCTION, IMPORT, LIST, LITERAL, NAME_AND_TYPE}
@@ -16,6 +17,10 @@ use Rattle.ast.specs.Syntax.{question_mark, f_string, parentheses, Exprs, no_exp
 use Rattle.ast.specs.Syntax.{Arms, no_arms, arm, Parts, no_parts, string, value, Block, braces, MaybeBlock, no_block, some_block, Stmts, no_stmts}
 use Rattle.ast.specs.Syntax.{◌∷ˢ◌, Stmt, stmt, StmtForm, let', import_stmt, does, Variants, no_variants, variant, Declaration, filter_map, const}
 use Rattle.ast.specs.Syntax.{record_decl, enum_decl, function, test, import_decl, SyntaxTree}
+
+-- the byte at `at` continues no character
+pub record Clear (b : List ℕ) (at : ℕ) : Type 0 where
+  pub starts : continues (get_or b at 0) ≡ false
 
 -- A record of a kind at an offset, whole within the image, with its span, which is a range of the source.
 pub record Head (s b : List ℕ) (kind : ℕ) (p : Span) (at : ℕ) : Type 0 where
@@ -105,6 +110,9 @@ module _ (s b : List ℕ) where
     pub wide : be16 b (at + 13) ≡ i.width
     pub starts : at + 15 ≡ i.start
     pub ends : i.start + i.size ≡ past at
+    -- it is UTF-8, and what stands behind it continues no character of it
+    pub formed : well_formed (part (at + 15) (past at) b) ≡ true
+    pub clear : Clear b (past at)
 
   -- texts one after the other, up to `end`
   unfoldable pub IdentsAt : List Ident → ℕ → ℕ → Type 0

@@ -31,7 +31,10 @@ use Rattle.renderer_rules.specs.Renderer.{insert, indent_more, indent_less, next
 use Rattle.renderer_rules.specs.Renderer.{next_indent_less, wraps, group_wraps, trailing_call, callee_wraps, render_node, render_nodes}
 use Rattle.rows.specs.Texts.{origin_text}
 use Rattle.renderer_rules.specs.Page.{text_bytes}
-use Rattle.renderer_rules.specs.Check.{reaches, parts_fit, row_fits_of, first_wrong, wrong_row_of, places_fit, wrong_place}
+use Rattle.renderer_rules.specs.Check.{reaches, parts_fit, row_fits_of, first_wrong, wrong_row_of, places_fit, places_fit_by, wrong_place_by}
+use Rattle.widths.specs.Rules.{edition_of, columns_by}
+use Rattle.node_widths.specs.Summed.{summed, summed_all, str_columns}
+use Rattle.node_widths.specs.Measured.{ascii_columns}
 use Rattle.marks.specs.Marks.{marks_needed}
 use Rattle.whole_run.specs.Edges.{newline, EdgesHold, WidthsHold, EmptyLineHolds}
 
@@ -44,7 +47,8 @@ unfolding header comment_fits comments_from comment_list shape opens children_at
     virtual_column insert indent_more indent_less next_indent_more next_indent_less wraps group_wraps trailing_call callee_wraps render_node
     render_nodes origin_text
     text_bytes
-    reaches parts_fit row_fits_of first_wrong wrong_row_of places_fit wrong_place marks_needed place_in word
+    reaches parts_fit row_fits_of first_wrong wrong_row_of places_fit places_fit_by wrong_place_by summed summed_all str_columns ascii_columns columns_by edition_of
+    marks_needed place_in word
     joined words ◌⨟◌ ◌⨟?◌ ◌⨟!◌ join grouped indents count_newlines newline_places char_at decoded scalar something seek one_of trim_end trim char_before ending
     ends shebang_rule declaration declares
     opening type_expr type_form type_args path_rule path_more expr_with_precedence literal_rule comments.nth comments.newlines comments.ignore_newlines
@@ -55,7 +59,7 @@ pub widths_hold : WidthsHold
 unfolding header source_fits be32 must_wrap must_wraps width widths size sizes rows_of rows view_of node_of decode nodes_at push_str
     at_column new_line margin text
     virtual_column insert wraps group_wraps render_node render_nodes origin_text text_bytes reaches parts_fit row_fits_of first_wrong
-    wrong_row_of places_fit wrong_place
+    wrong_row_of places_fit places_fit_by wrong_place_by str_columns ascii_columns columns_by edition_of
     marks_needed
 widths_hold = record {
   least = record { stays = refl; wraps = refl };

@@ -2,22 +2,23 @@
 -- that the first call leaves. Where a line before 8 refuses the file, neither is made.
 -- Assumes nothing.
 use mathlib.Core.Path.{◌≡◌, refl, sym, ap, ap₂, subst₂, ◌∙◌}
-use mathlib.Core.Bool.{true, false}
+use mathlib.Core.Bool.{Bool, true, false, cond, not}
 use Rattle.std.specs.Prelude.{Option, None}
 use mathlib.Core.List.{List, [], ◌∷◌, ◌++◌}
 use Prim.Native.Nat.{ℕ, ◌+◌, ◌*◌, ◌-◌, ◌≤◌, max}
 use native.Mathlib.Omega.{arith}
 use native.Mathlib.Nat.{sub-zero, zero-add}
-use lib.Dec.{ltb}
+use lib.Dec.{ltb, eqb}
 use lib.ListN.{length, get_or, drop, replicate}
 use lib.Seq.{take-append-le, take-append_seam}
 use borrow.Author.Tests.{le-ltb, le-leb, eq-eqb}
+use Rattle.text.specs.Utf8.{prefix, well_formed, ill_formed}
 use Rattle.rows.specs.Places.{PLACES}
 use Rattle.image.specs.Bytes.{be32}
 use Rattle.image.specs.Read.{Read, got, bad, Image, header, source_fits, read_all, document_of, outcome, read_refusal}
 use Rattle.image.proofs.Accepted.{Header, accepted}
 use Rattle.rows.specs.Node.{Nodes}
-use Rattle.rows.specs.Rows.{rows}
+use Rattle.rows.specs.Rows.{sizes, rows}
 use Rattle.rows.specs.View.{view_of, nodes_at}
 use Rattle.rows.proofs.Sizes.{length_rows}
 use Rattle.rows.proofs.Flatten.{holds_part, read_back}
@@ -26,7 +27,7 @@ use Rattle.tree.specs.CommentList.{comments_of}
 use Rattle.comments.specs.Listed.{given}
 use Rattle.layout.specs.Layout.{fmt_parsed}
 use Rattle.layout.specs.Closing.{fresh, whole_rule}
-use Rattle.renderer_rules.specs.Check.{wrong_place}
+use Rattle.renderer_rules.specs.Check.{wrong_place_by}
 use Rattle.renderer_rules.specs.Widest.{greatest_column}
 use Rattle.refusals.specs.Refusals.{Refusal, unless, first, refuse_if, refuse_at, any}
 use Rattle.refusals.specs.Answers.{answer_by}
@@ -37,13 +38,15 @@ use Rattle.cut_rule.specs.Laws.{SameBefore}
 use Rattle.cut_rule.specs.Run.{write_front, CallResult, laid_out, written}
 use Rattle.cut_rule.specs.Entries.{layout_answer, layout_store, render_gives, render_answer, render_marks, render_output}
 use Rattle.cut_rule.specs.States.{LayoutState, RenderState, layout_fresh, render_fresh, LayoutChoice, RenderChoice}
-use Rattle.cut_rule.specs.Tests.{rows_in, render_tests, places_tests, limit_tests, begun_tests, stop_tests, mode_tests, row_tests, pen_tests, mark_tests}
+use Rattle.cut_rule.specs.Tests.{rows_in, render_tests, places_tests, limit_tests, begun_tests, stop_tests, mode_tests, rule_tests, row_tests, pen_tests, mark_tests}
 use Rattle.cut_rule.specs.Parts.{layout_tests, rows_needed, before_rows, rows_line, with_cleared, drawn_of, before_marks, marks_line, text_line, render_table}
-use Rattle.whole_run.specs.Parts.{render_image, keeps_waiting, page, drawn, widest_drawn, parts_of}
+use Rattle.whole_run.specs.Parts.{formed_line, render_image, keeps_waiting, page, drawn, widest_drawn, parts_of}
 use Rattle.whole_run.specs.Demands.{rules_of, laid_to, closing_at}
-use Rattle.whole_run.specs.Built.{FileChoice, layout_choice, render_choice, tree, declared, built, rows_due, marks_due, drawn_due, column_due}
+use Rattle.whole_run.specs.Built.{FileChoice, layout_choice, render_choice, tree, declared, built, laid, rows_due, marks_due, drawn_due, column_due}
 use Rattle.whole_run.specs.File.{mode_line, file_before_rows, file_rows_line, file_before_marks, file_marks_line, file_text_line, laid_refusal, refusal_in}
 use Rattle.whole_run.specs.File.{store_left, marks_left, output_left, FileResult, file_result, OldModeIsFmtParsed, NewModeLeavesNone}
+use Rattle.widths.specs.Rules.{SUPPLIED}
+use Rattle.whole_run.proofs.Laid.{laid_size}
 use Rattle.whole_run.proofs.Whole.{fmt_parsed_lem}
 use Rattle.whole_run.proofs.Foot.{closing_places_all}
 use Rattle.whole_run.proofs.Limits.{all_limited}
@@ -53,6 +56,14 @@ use Rattle.whole_run.proofs.RenderParts.{render_parts}
 fits_source : (s : List ℕ) → length s ≤ 65536 → source_fits s ≡ true
 unfolding source_fits
 fits_source s h = le-leb (length s) 65536 h
+
+formed_passes : (rule : ℕ) (s : List ℕ) → well_formed s ≡ true → formed_line rule s ≡ None
+unfolding ill_formed
+formed_passes rule s h = go (eqb rule SUPPLIED)
+  where
+    go : (x : Bool) → cond x None (ill_formed s) ≡ None
+    go true = refl
+    go false = ap (λ (t : Bool). refuse_if (not t) 2 (prefix s)) h
 
 fits_header : (b : List ℕ) → Header b → header b ≡ true
 unfolding header
@@ -69,14 +80,14 @@ module _ (s b : List ℕ) where
   count = length (declared s b)
 
   -- 1 and 3
-  pub image_passes : read_refusal (read_all s b) ≡ None → render_image s b ≡ None
-  image_passes h = go (read_all s b) refl h
+  pub image_passes : (rule : ℕ) → read_refusal (read_all s b) ≡ None → render_image rule s b ≡ None
+  image_passes rule h = go (read_all s b) refl h
     where
-      go : (r : Read Image) → read_all s b ≡ r → read_refusal r ≡ None → render_image s b ≡ None
+      go : (r : Read Image) → read_all s b ≡ r → read_refusal r ≡ None → render_image rule s b ≡ None
       go (bad n p) e h = let z : ◌≡◌ {A = ℕ} 0 1 = cc in absurd (omega arith)
       go (got i end) e h =
           let a = accepted s b (document_of i) (record { answer = ap outcome e }) in
-          rw (fits_source s a.short, fits_header b a.root.head)
+          rw (fits_source s a.short, formed_passes rule s a.well, fits_header b a.root.head)
 
   -- ---- as a caller chooses
   module _ (c : FileChoice) where
@@ -92,10 +103,11 @@ module _ (s b : List ℕ) where
       declaration = count;
       cursor = record { row = rows_due s b c; number = (built s b c).taken; placed = (built s b c).placed; position = (built s b c).pos };
       mode = c.mode;
+      rule = c.rule;
     }
 
     laid_due : ◌≡◌ {A = LayoutResult LayoutState} (laid_to (read_all s b) s b layout_args)
-        (record { state = state_due; rows = rows (built s b c).nodes 0; left = length (comments_of b) - (built s b c).placed })
+        (record { state = state_due; rows = rows (laid s b c) 0; left = length (comments_of b) - (built s b c).placed })
     laid_due =
         let g = (fmt_parsed_lem (read_all s b) s b).closed_in (layout_choice c) in
         λ t.
@@ -106,6 +118,7 @@ module _ (s b : List ℕ) where
             declaration = count;
             cursor = record { row = g.row_due t; number = g.number_due t; placed = g.placed_due t; position = g.position_due t };
             mode = c.mode;
+            rule = c.rule;
           };
           rows = g.rows_due_of t;
           left = g.left_due_of t;
@@ -115,16 +128,16 @@ module _ (s b : List ℕ) where
     rows_needed_lem = ((fmt_parsed_lem (read_all s b) s b).closed_in (layout_choice c)).row_due
 
     -- the rows that the layout call leaves
-    same_rows : (store : List ℕ) → SameBefore (rows_due s b c) (rows (built s b c).nodes 0) (write_front (rows (built s b c).nodes 0) store)
+    same_rows : (store : List ℕ) → SameBefore (rows_due s b c) (rows (laid s b c) 0) (write_front (rows (laid s b c) 0) store)
     same_rows store =
-        let r = rows (built s b c).nodes 0 in
-        sym (take-append-le (PLACES * rows_due s b c) r (drop (length r) store) (omega (arith, length_rows (built s b c).nodes 0)))
+        let r = rows (laid s b c) 0 in
+        sym (take-append-le (PLACES * rows_due s b c) r (drop (length r) store) (omega (arith, length_rows (laid s b c) 0, laid_size c.rule s b (built s b c).nodes)))
 
     -- 12
     layout_passes : mode_line c ≡ None → (store : List ℕ) → any (layout_tests (parts_of s b) layout_args layout_fresh store) ≡ false
     layout_passes moded store =
         let stop = stop_tests count layout_args layout_fresh in
-        let mode = mode_tests layout_args.choice layout_fresh in
+        let mode = mode_tests layout_args.choice layout_fresh ++ rule_tests layout_args.choice.rule 0 in
         none_both (places_tests count (length (comments_of b)) (length s) (rows_in store) layout_fresh)
         (limit_tests layout_fresh ++ (begun_tests layout_fresh ++ (stop ++ mode)))
         (rw (
@@ -137,14 +150,15 @@ module _ (s b : List ℕ) where
         (none_both (begun_tests layout_fresh) (stop ++ mode) refl
         (none_both stop mode
         (rw (le-ltb count 0 (omega arith), le-ltb count count (omega arith), eq-eqb count count refl))
-        (not_if (any mode) 12 0 moded))))
+        (none_both (mode_tests layout_args.choice layout_fresh) (rule_tests layout_args.choice.rule 0)
+        (not_if (any (mode_tests layout_args.choice layout_fresh)) 12 0 moded) refl))))
 
     -- ---- of a file that no line before 8 refuses
     module _ (h : first (file_before_rows s b c) ≡ None) where
       layout_early : (store : List ℕ) → first (before_rows (parts_of s b) layout_args layout_fresh store) ≡ None
       layout_early store =
           let p = file_passed s b c h in
-          λ t. first (p.read t ∷ refuse_if (layout_passes p.moded store t) 12 0 ∷ [])
+          λ t. first (p.chosen t ∷ p.read t ∷ refuse_if (layout_passes p.moded store t) 12 0 ∷ [])
 
       pub layout_refusal_due : (store : List ℕ) → (rules_of s b).layout_refusal layout_args layout_fresh store ≡ laid_refusal s b c (rows_in store)
       layout_refusal_due store =
@@ -175,25 +189,27 @@ module _ (s b : List ℕ) where
     -- 12
     render_passes : (store marks out : List ℕ) → any (render_tests (render_args out) render_fresh store marks) ≡ false
     render_passes store marks out =
-        none_both (row_tests (rows_in store) (rows_due s b c) 0) (pen_tests render_fresh.pen ++ mark_tests marks 0)
+        none_both (row_tests (rows_in store) (rows_due s b c) 0) (pen_tests render_fresh.pen ++ (mark_tests marks 0 ++ rule_tests c.rule 0))
         (rw (le-ltb (rows_in store) 0 (omega arith), le-ltb (rows_due s b c) 0 (omega arith)))
-        (none_both (pen_tests render_fresh.pen) (mark_tests marks 0) refl (rw (le-ltb (length marks) 0 (omega arith))))
+        (none_both (pen_tests render_fresh.pen) (mark_tests marks 0 ++ rule_tests c.rule 0) refl
+        (none_both (mark_tests marks 0) (rule_tests c.rule 0) (rw (le-ltb (length marks) 0 (omega arith))) refl))
 
     module _ (store : List ℕ) where
       abbrev rowed : List ℕ
-      rowed = write_front (rows (built s b c).nodes 0) store
+      rowed = write_front (rows (laid s b c) 0) store
 
       -- 11
-      rows_right : read_refusal (read_all s b) ≡ None → wrong_place s b rowed 0 (rows_due s b c) ≡ None
+      rows_right : read_refusal (read_all s b) ≡ None → wrong_place_by c.rule s b rowed 0 (rows_due s b c) ≡ None
       rows_right read =
           let g = (fmt_parsed_lem (read_all s b) s b).closed_in (layout_choice c) in
-          (render_parts s b (read_all s b)).right_local (render_choice c) (rows (built s b c).nodes 0) rowed (rows_due s b c) (same_rows store)
-          (subst₂ (λ (x : List ℕ) (n : ℕ). wrong_place s b x 0 n ≡ None) g.rows_due_of g.row_due ((all_limited s b read).closed (layout_choice c)).right)
+          (render_parts s b (read_all s b)).right_local (render_choice c) (rows (laid s b c) 0) rowed (rows_due s b c) (same_rows store)
+          (subst₂ (λ (x : List ℕ) (n : ℕ). wrong_place_by c.rule s b x 0 n ≡ None) g.rows_due_of g.row_due
+          (((all_limited s b read).closed (layout_choice c)).right c.rule))
 
       marks_due_of : marks_needed (rows_due s b c - 0) rowed 0 ≡ marks_due s b c
       marks_due_of =
-          sym ((render_parts s b (read_all s b)).needed_local (rows (built s b c).nodes 0) rowed 0 (rows_due s b c) (same_rows store))
-          ∙ ap (λ (n : ℕ). marks_needed n (rows (built s b c).nodes 0) 0) (sub-zero (rows_due s b c))
+          sym ((render_parts s b (read_all s b)).needed_local (rows (laid s b c) 0) rowed 0 (rows_due s b c) (same_rows store))
+          ∙ ap (λ (n : ℕ). marks_needed n (rows (laid s b c) 0) 0) (sub-zero (rows_due s b c))
 
       drawn_due_of : drawn_of (parts_of s b) render_fresh render_to [] rowed ≡ drawn_due s b c
       drawn_due_of =
@@ -201,17 +217,17 @@ module _ (s b : List ℕ) where
           let z = render_fresh in
           let m = marks_needed (rows_due s b c - 0) rowed 0 in
           let cleared : List ℕ = replicate (marks_due s b c) 0 in
-          sym ((render_parts s b (read_all s b)).draw_local z render_to (replicate (m - 0) 0) (rows (built s b c).nodes 0) rowed (same_rows store))
-          ∙ ap (λ (n : ℕ). drawn s b z render_to (replicate n 0) (rows (built s b c).nodes 0)) (sub-zero m ∙ marks_due_of)
+          sym ((render_parts s b (read_all s b)).draw_local z render_to (replicate (m - 0) 0) (rows (laid s b c) 0) rowed (same_rows store))
+          ∙ ap (λ (n : ℕ). drawn s b z render_to (replicate n 0) (rows (laid s b c) 0)) (sub-zero m ∙ marks_due_of)
           ∙ ap₂ (λ (x : List ℕ) (n : ℕ). drawn s b z (record { stop = n; choice = render_choice c }) cleared x) (sym g.rows_due_of) (sym g.row_due)
           ∙ g.drawn_due_of (render_choice c) z cleared refl
 
       -- the rows are read back as the nodes that they are of
-      nodes_due : nodes_at (view_of rowed) 0 (rows_due s b c) ≡ (built s b c).nodes
+      nodes_due : nodes_at (view_of rowed) 0 (rows_due s b c) ≡ laid s b c
       nodes_due =
-          let r = rows (built s b c).nodes 0 in
-          ap (nodes_at (view_of rowed) 0) (sym (zero-add (rows_due s b c)))
-          ∙ read_back (built s b c).nodes rowed 0 (holds_part rowed 0 r (take-append_seam r (drop (length r) store)))
+          let r = rows (laid s b c) 0 in
+          ap (nodes_at (view_of rowed) 0) (sym (laid_size c.rule s b (built s b c).nodes) ∙ sym (zero-add (sizes (laid s b c))))
+          ∙ read_back (laid s b c) rowed 0 (holds_part rowed 0 r (take-append_seam r (drop (length r) store)))
 
       widest_due : widest_drawn s b render_fresh render_to (with_cleared (parts_of s b) [] (marks_needed (rows_due s b c - 0) rowed 0)) rowed ≡ column_due s b c
       widest_due =
@@ -223,7 +239,8 @@ module _ (s b : List ℕ) where
       early_due p marks out =
           λ t.
           first
-          (image_passes p.read t
+          (p.chosen t
+          ∷ image_passes c.rule p.read t
           ∷ refuse_at (rows_right p.read t) 11
           ∷ refuse_if (render_passes rowed marks out t) 12 0
           ∷ p.legal t
@@ -232,21 +249,21 @@ module _ (s b : List ℕ) where
       rendered_due_lem : (marks out : List ℕ)
           → render_gives (rules_of s b) (render_args out) render_fresh rowed marks
           ≡ record {
-            state = record { pen = (drawn_due s b c).pen; in_use = max 0 (marks_due s b c); row = rows_due s b c; width = c.width };
+            state = record { pen = (drawn_due s b c).pen; in_use = max 0 (marks_due s b c); row = rows_due s b c; width = c.width; rule = c.rule };
             marks = (drawn_due s b c).marks;
             text = (drawn_due s b c).text;
           }
       rendered_due_lem marks out =
           λ t.
           record {
-            state = record { pen = (drawn_due_of t).pen; in_use = max 0 (marks_due_of t); row = rows_due s b c; width = c.width };
+            state = record { pen = (drawn_due_of t).pen; in_use = max 0 (marks_due_of t); row = rows_due s b c; width = c.width; rule = c.rule };
             marks = (drawn_due_of t).marks;
             text = (drawn_due_of t).text;
           }
 
     -- the state that it answers
     abbrev pub rendered_due : RenderState
-    rendered_due = record { pen = (drawn_due s b c).pen; in_use = max 0 (marks_due s b c); row = rows_due s b c; width = c.width }
+    rendered_due = record { pen = (drawn_due s b c).pen; in_use = max 0 (marks_due s b c); row = rows_due s b c; width = c.width; rule = c.rule }
 
     -- what it answers and leaves, of what the layout call left
     module _ (store marks out : List ℕ) (h : laid_refusal s b c (rows_in store) ≡ None) where

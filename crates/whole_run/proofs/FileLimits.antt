@@ -33,18 +33,23 @@ use Rattle.layout_facts.specs.Sound.{Inside, Supplied, TextsOf, TextsIn}
 use Rattle.layout_facts.proofs.Limits.{closed_within}
 use Rattle.renderer_rules.specs.Check.{uses_number, uses_number2, uses_second, uses_text, uses_width, text_fits, no_text_fits, places_fit}
 use Rattle.renderer_rules.specs.Most.{row_most, rows_most}
-use Rattle.renderer_rules.specs.Page.{page_of}
-use Rattle.renderer_rules.proofs.Most.{text_most}
+use Rattle.renderer_rules.specs.Page.{text_bytes}
+use Rattle.renderer_rules.specs.Renderer.{Page}
+use Rattle.renderer_rules.proofs.ByRule.{fits_by}
+use Rattle.renderer_rules.proofs.Most.{text_most, text_size}
+use Rattle.widths.proofs.ByRule.{by_fits}
+use Rattle.node_widths.specs.Summed.{summed, summed_all, str_columns}
+use Rattle.node_widths.specs.Measured.{ascii_columns, rule_page}
 use Rattle.renderer_rules.proofs.Columns.{measure, measures, column_most}
 use Rattle.refusals.specs.Refusals.{refuse_if}
 use Rattle.refusals.proofs.Groups.{passes_line, passes_others, not_if}
 use Rattle.cut_rule.specs.States.{render_fresh}
 use Rattle.cut_rule.specs.Parts.{Drawn}
-use Rattle.whole_run.specs.Parts.{keeps_waiting, render_image, renderer_of}
+use Rattle.whole_run.specs.Parts.{keeps_waiting, page, formed_line, render_image, renderer_of}
 use Rattle.whole_run.specs.Demands.{laid_to}
 use Rattle.whole_run.specs.File.{file_rows}
 use Rattle.whole_run.specs.FileLimits.{MAX_IMAGE, RowsTextLimited, FileTextLimited, AreBytes, FileColumnLimited}
-use Rattle.whole_run.specs.Built.{layout_choice, render_choice, built, marks_due}
+use Rattle.whole_run.specs.Built.{layout_choice, render_choice, built, laid, marks_due}
 use Rattle.whole_run.proofs.Right.{Right, right}
 use Rattle.whole_run.proofs.Whole.{fmt_parsed_lem}
 use Rattle.whole_run.proofs.Limits.{stood, all_limited}
@@ -111,13 +116,15 @@ record Sized (s b : List ℕ) : Type 0 where
   source : length s ≤ MAX_SOURCE
   image : length b ≤ MAX_IMAGE
 
-sized : (s b : List ℕ) → render_image s b ≡ None → Sized s b
+sized : (rule : ℕ) (s b : List ℕ) → render_image rule s b ≡ None → Sized s b
 unfolding source_fits
-sized s b e =
+sized rule s b e =
     let one = refuse_if (not (source_fits s)) 1 0 in
+    let two = formed_line rule s in
     let three = refuse_if (not (header b)) 3 0 in
-    let f = not_if (not (source_fits s)) 1 0 (passes_line one (three ∷ []) e) in
-    let h = headed b (not-false _ (not_if (not (header b)) 3 0 (passes_line three [] (passes_others one (three ∷ []) e)))) in
+    let f = not_if (not (source_fits s)) 1 0 (passes_line one (two ∷ three ∷ []) e) in
+    let behind = passes_others two (three ∷ []) (passes_others one (two ∷ three ∷ []) e) in
+    let h = headed b (not-false _ (not_if (not (header b)) 3 0 (passes_line three [] behind))) in
     record { source = leb-true (length s) MAX_SOURCE (not-false _ f); image = omega (arith, h.size, h.short) }
 
 module _ {s b : List ℕ} (z : Sized s b) where
@@ -151,49 +158,68 @@ module _ {s b : List ℕ} (z : Sized s b) where
           let f = eqb-true (cell store i SIZE) 0 (and_right (eqb (cell store i START) 0) _ (and_right (eqb (cell store i ORIGIN) 0) _ h)) in
           omega arith
 
-  rows_sized : (store : List ℕ) (n : ℕ) → n ≤ file_rows → Right s b store 0 n → rows_most n 0 store 0 ≤ n * (MAX_IMAGE + 2)
+  rows_sized : (rule : ℕ) (store : List ℕ) (n : ℕ) → n ≤ file_rows → Right rule s b store 0 n → rows_most n 0 store 0 ≤ n * (MAX_IMAGE + 2)
   unfolding view_of
-  rows_sized store n few r =
+  rows_sized rule store n few r =
       rows_sum n store 0
       (λ k p q.
       let e = ends_by (view_of store) k r.nests p (omega arith) in
-      row_most_lem store k (cell store k KIND) (text_short store k (r.places k p (omega arith))) (omega arith))
+      row_most_lem store k (cell store k KIND) (text_short store k (fits_by rule s b store k (r.places k p (omega arith)))) (omega arith))
 
   -- ---- nodes
   inside_size : (t : Text) → Inside (given s b) t → t.size ≤ MAX_IMAGE
   inside_size t i = omega (arith, i.fits, origin_size t.origin)
 
-  module _ (bytes : AreBytes b) (max : ℕ) where
+  module _ (bytes : AreBytes b) (max rule chosen : ℕ) where
+    -- the page, and what a `Str` is given
+    abbrev p : Page
+    p = rule_page max rule s b
+
+    abbrev f : ℕ → Text → ℕ
+    f = str_columns chosen s b
+
     supplied_width : (w : ℕ) (t : Text) → Supplied (given s b) w t → w ≤ 65535
     unfolding be16
     supplied_width w t p = omega (arith, p.same, bytes p.at, bytes (p.at + 1))
 
-    mutual
-      unfolding measure TextsOf size
+    part_short : (t : Text) → length (text_bytes s b t) ≤ t.size
+    part_short t = text_size s b t
 
-      node_measure : (n : Node) → TextsOf (given s b) n → measure (page_of max s b) n ≤ MAX_IMAGE * size n
+    str_fits : (w : ℕ) (t : Text) → Inside (given s b) t → Supplied (given s b) w t → f w t ≤ MAX_IMAGE
+    unfolding str_columns
+    str_fits w t i p =
+        by_fits chosen w (text_bytes s b t) MAX_IMAGE (omega (arith, supplied_width w t p)) (omega (arith, part_short t, inside_size t i))
+
+    ascii_fits : (t : Text) → Inside (given s b) t → p.columns t ≤ MAX_IMAGE
+    unfolding ascii_columns str_columns
+    ascii_fits t i = by_fits rule t.size (text_bytes s b t) MAX_IMAGE (inside_size t i) (omega (arith, part_short t, inside_size t i))
+
+    mutual
+      unfolding measure TextsOf size summed
+
+      node_measure : (n : Node) → TextsOf (given s b) n → measure p (summed f n) ≤ MAX_IMAGE * size n
       node_measure (group n ns) t = let h = nodes_measure ns t in omega arith
       node_measure (indent ns) t = let h = nodes_measure ns t in omega arith
       node_measure (indent_next ns) t = let h = nodes_measure ns t in omega arith
       node_measure wrap_parent t = omega arith
       node_measure (comment x) t = omega arith
-      node_measure (str w x) t = let h = supplied_width w x t.1 in omega arith
-      node_measure (ascii x) t = let h = inside_size x t in omega arith
+      node_measure (str w x) t = let h = str_fits w x t.0 t.1 in omega arith
+      node_measure (ascii x) t = let h = ascii_fits x t in omega arith
       node_measure line t = omega arith
       node_measure empty_line t = omega arith
       node_measure line_or_space t = omega arith
       node_measure (if_wrap n a c) t = let h = node_measure a t.0 in let g = node_measure c t.1 in omega arith
       node_measure (call n e k a) t = let h = nodes_measure e t.0 in let g = nodes_measure a t.1 in omega arith
 
-      nodes_measure : (ns : Nodes) → TextsIn (given s b) ns → measures (page_of max s b) ns ≤ MAX_IMAGE * sizes ns
+      nodes_measure : (ns : Nodes) → TextsIn (given s b) ns → measures p (summed_all f ns) ≤ MAX_IMAGE * sizes ns
       nodes_measure node.none t = omega arith
       nodes_measure (n then ns) t = let h = node_measure n t.0 in let g = nodes_measure ns t.1 in omega arith
 
 pub rows_text_limited : RowsTextLimited
-rows_text_limited max s b store marks n few image e =
-    let r = right s b store 0 n (omega arith) e in
-    let h = text_most max s b store 0 n 0 0 r.nests true (renderer_of render_fresh.pen marks) refl refl in
-    let k = rows_sized (sized s b image) store n few r in
+rows_text_limited c s b store marks n few image e =
+    let r = right c.rule s b store 0 n (omega arith) e in
+    let h = text_most c.width (ascii_columns c.rule s b) s b store 0 n 0 0 r.nests true (renderer_of render_fresh.pen marks) refl refl in
+    let k = rows_sized (sized c.rule s b image) c.rule store n few r in
     let m : rows_most (n - 0) 0 store 0 ≡ rows_most n 0 store 0 = ap (λ (x : ℕ). rows_most x 0 store 0) (sub-zero n) in
     omega arith
 
@@ -206,14 +232,15 @@ file_text_limited s b c h =
     let e = ap (λ (d : Drawn). length d.text) (g.drawn_due_of (render_choice c) render_fresh marks refl) in
     let read = (laid_passed s b c file_rows h).read in
     let m =
-    rows_text_limited c.width s b l.rows marks l.state.cursor.row (omega (arith, g.row_due, rows_fit s b c file_rows h)) (image_passes s b read)
-    ((all_limited s b read).closed (layout_choice c)).right
+    rows_text_limited (render_choice c) s b l.rows marks l.state.cursor.row (omega (arith, g.row_due, rows_fit s b c file_rows h))
+    (image_passes s b c.rule read)
+    (((all_limited s b read).closed (layout_choice c)).right c.rule)
     in
     omega arith
 
 pub file_column_limited : FileColumnLimited
-file_column_limited max s b marks c bytes h =
+file_column_limited k s b marks c bytes h =
     let read = (laid_passed s b c file_rows h).read in
-    let z = sized s b (image_passes s b read) in
-    let m = nodes_measure z bytes max (built s b c).nodes (closed_within (stood s b read).stood (keeps_waiting c.mode)).texts in
-    omega (arith, column_most (page_of max s b) (built s b c).nodes marks, rows_fit s b c file_rows h)
+    let z = sized k.rule s b (image_passes s b k.rule read) in
+    let m = nodes_measure z bytes k.width k.rule c.rule (built s b c).nodes (closed_within (stood s b read).stood (keeps_waiting c.mode)).texts in
+    omega (arith, column_most (page k s b) (laid s b c) marks, rows_fit s b c file_rows h)

@@ -12,7 +12,7 @@ use Rattle.refusals.specs.Refusals.{Refusal, or_else, first}
 use Rattle.refusals.proofs.Groups.{first_append, refuses_left, left_to, passes_left, passes_right, passes_line, passes_others, not_if}
 use Rattle.image.specs.Read.{read_all, read_refusal}
 use Rattle.cut_rule.specs.States.{render_fresh}
-use Rattle.cut_rule.specs.Parts.{width_line}
+use Rattle.cut_rule.specs.Parts.{rule_line, width_line}
 use Rattle.whole_run.specs.Built.{FileChoice, render_choice, rows_due, marks_due, drawn_due}
 use Rattle.whole_run.specs.File.{mode_line, file_before_rows, file_rows_line, file_marks_line, file_text_line}
 use Rattle.whole_run.specs.File.{file_before_marks, file_before_text, laid_refusal, refusal_in}
@@ -22,8 +22,9 @@ pub left_to_two : (os ps qs : List (Option Refusal)) → first os ≡ None → f
 left_to_two os ps qs e =
     first_append (os ++ ps) qs ∙ ap (λ (o : Option Refusal). or_else o (first qs)) (left_to os ps e) ∙ sym (first_append ps qs)
 
--- 1 to 7, 12 and 15
+-- 20, 1 to 7, 12 and 15
 pub record FilePassed (s b : List ℕ) (c : FileChoice) : Type 0 where
+  pub chosen : rule_line c.rule ≡ None
   pub read : read_refusal (read_all s b) ≡ None
   pub moded : mode_line c ≡ None
   pub legal : width_line (render_choice c) render_fresh ≡ None
@@ -32,9 +33,12 @@ module _ (s b : List ℕ) (c : FileChoice) where
   pub file_passed : first (file_before_rows s b c) ≡ None → FilePassed s b c
   file_passed h =
       let widths : List (Option Refusal) = width_line (render_choice c) render_fresh ∷ [] in
-      let modes = passes_others (read_refusal (read_all s b)) (mode_line c ∷ widths) h in
+      let others : List (Option Refusal) = read_refusal (read_all s b) ∷ mode_line c ∷ widths in
+      let reads = passes_others (rule_line c.rule) others h in
+      let modes = passes_others (read_refusal (read_all s b)) (mode_line c ∷ widths) reads in
       record {
-        read = passes_line (read_refusal (read_all s b)) (mode_line c ∷ widths) h;
+        chosen = passes_line (rule_line c.rule) others h;
+        read = passes_line (read_refusal (read_all s b)) (mode_line c ∷ widths) reads;
         moded = passes_line (mode_line c) widths modes;
         legal = passes_line (width_line (render_choice c) render_fresh) [] (passes_others (mode_line c) widths modes);
       }

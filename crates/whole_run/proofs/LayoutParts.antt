@@ -30,19 +30,21 @@ use Rattle.cut_rule.specs.CutRule.{comments_in}
 use Rattle.cut_rule.specs.States.{Cursor}
 use Rattle.cut_rule.specs.PartLaws.{Counts, LayoutPartLaws, PlacesNext, CommentPartLaws}
 use Rattle.cut_rule.proofs.Comments.{comments_join}
+use Rattle.node_widths.specs.Summed.{laid_nodes}
+use Rattle.whole_run.proofs.Laid.{laid_size, laid_comments}
 use Rattle.whole_run.specs.Parts.{accepted_tree, listed, act_piece, declaration_act, keeps_waiting, parts_by}
 
 -- ---- rows
-counts : (a : Act) (c : Cursor) → Counts c (act_piece a c)
-counts a c =
+counts : (rule : ℕ) (s b : List ℕ) (a : Act) (c : Cursor) → Counts c (act_piece rule s b a c)
+counts rule s b a c =
     let o = a (record { number = c.number; pos = c.position; placed = c.placed }) in
-    record { row = omega (arith, length_rows o.nodes c.row) }
+    record { row = omega (arith, length_rows (laid_nodes rule s b o.nodes) c.row, laid_size rule s b o.nodes) }
 
 pub layout_parts : (r : Read Image) (s b : List ℕ) → LayoutPartLaws (parts_by r s b)
 layout_parts r s b = record {
-  shebang_counts = λ e k c. counts (shebang_rule (given s b) (accepted_tree b r).shebang) c;
-  declaration_counts = λ e k n c l. counts (declaration_act s b n (nth (accepted_tree b r).declarations n)) c;
-  final_counts = λ e k c. counts (closing (given s b) (accepted_tree b r) (keeps_waiting k.mode)) c;
+  shebang_counts = λ e k c. counts k.rule s b (shebang_rule (given s b) (accepted_tree b r).shebang) c;
+  declaration_counts = λ e k n c l. counts k.rule s b (declaration_act s b n (nth (accepted_tree b r).declarations n)) c;
+  final_counts = λ e k c. counts k.rule s b (closing (given s b) (accepted_tree b r) (keeps_waiting k.mode)) c;
 }
 
 -- ---- the comments among the rows of nodes
@@ -96,18 +98,20 @@ module _ (s b : List ℕ) where
   abbrev g : Given
   g = given s b
 
-  places : (a : Act) (c : Cursor) → StepPlaces g a → c.placed ≤ length (listed s b) → PlacesNext (listed s b) c (act_piece a c)
-  places a c p h =
+  places : (rule : ℕ) (a : Act) (c : Cursor) → StepPlaces g a → c.placed ≤ length (listed s b) → PlacesNext (listed s b) c (act_piece rule s b a c)
+  places rule a c p h =
       let z : St = record { number = c.number; pos = c.position; placed = c.placed } in
       let l : length (listed s b) ≡ length (comments_of b) = length-map (comments_of b) _ in
       let q = p.from z (omega arith) in
+      let ns = laid_nodes rule s b (a z).nodes in
       let e : c.row + sizes (a z).nodes - c.row ≡ sizes (a z).nodes = omega arith in
       record {
         more = q.more;
         within = omega (arith, q.within);
         next =
-            ap (comments_in (rows (a z).nodes c.row)) e
-            ∙ rows_comments (a z).nodes c.row
+            ap (comments_in (rows ns c.row)) (e ∙ sym (laid_size rule s b (a z).nodes))
+            ∙ rows_comments ns c.row
+            ∙ laid_comments rule s b (a z).nodes
             ∙ q.same;
       }
 
@@ -120,8 +124,8 @@ module _ (s b : List ℕ) where
       let t = accepted_tree b r in
       record {
         all_listed = sym (length-map (comments_of b) _);
-        shebang_places = λ e k c h. places (shebang_rule g t.shebang) c (places_shebang g t.shebang) h;
+        shebang_places = λ e k c h. places k.rule (shebang_rule g t.shebang) c (places_shebang g t.shebang) h;
         declaration_places =
-            λ e k n c l h. places (declaration_act s b n (nth t.declarations n)) c (places_one n (nth t.declarations n)) h;
-        final_places = λ e k c h. places (closing g t (keeps_waiting k.mode)) c (places_closing g t (keeps_waiting k.mode)) h;
+            λ e k n c l h. places k.rule (declaration_act s b n (nth t.declarations n)) c (places_one n (nth t.declarations n)) h;
+        final_places = λ e k c h. places k.rule (closing g t (keeps_waiting k.mode)) c (places_closing g t (keeps_waiting k.mode)) h;
       }

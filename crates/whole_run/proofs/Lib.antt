@@ -3,6 +3,7 @@ pub mod Past
 pub mod Marks
 pub mod Right
 pub mod RenderParts
+pub mod Laid
 pub mod LayoutParts
 pub mod Whole
 pub mod Limits

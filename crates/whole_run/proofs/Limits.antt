@@ -22,11 +22,13 @@ use Rattle.rows.proofs.Flatten.{Holds}
 use Rattle.acts.specs.Act.{Given, Out}
 use Rattle.comments.specs.Listed.{given}
 use Rattle.layout_facts.specs.Accepted.{Stands, Within}
-use Rattle.layout_facts.proofs.Limits.{stands, closed_within, up_to_within, due_passes}
-use Rattle.renderer_rules.specs.Check.{wrong_place}
+use Rattle.layout_facts.proofs.Limits.{stands, closed_within, up_to_within, due_passes_by}
+use Rattle.renderer_rules.specs.Check.{wrong_place_by}
 use Rattle.cut_rule.specs.Rules.{LayoutResult}
 use Rattle.cut_rule.specs.States.{LayoutState}
 use Rattle.whole_run.specs.Parts.{accepted_tree, keeps_waiting}
+use Rattle.node_widths.specs.Summed.{laid_nodes, str_columns}
+use Rattle.whole_run.proofs.Laid.{laid_size}
 use Rattle.whole_run.specs.Demands.{Gives, Limited, AllLimited}
 use Rattle.whole_run.proofs.Whole.{fmt_parsed_lem}
 
@@ -47,7 +49,7 @@ module _ (s b : List ℕ) where
       let n = d.comments in
       let at = d.tree in
       let same : read_all s b ≡ got (record { comments = n; tree = c.tree; at = at }) (length b) = reads_image a.short a.well ∙ c.whole in
-      subst (λ (t : SyntaxTree). Stands g t at) (sym (ap (accepted_tree b) same)) (stands false s b n at c)
+      subst (λ (t : SyntaxTree). Stands g t at) (sym (ap (accepted_tree b) same)) (stands false s b n at a.well c)
 
   -- where the tree of what was read stands
   pub record Stood (r : Read Image) : Type 0 where
@@ -65,13 +67,15 @@ module _ (s b : List ℕ) where
   held : (l : List ℕ) → Holds l 0 l
   held l = record { at = λ k h. let e : 0 * PLACES + k ≡ k = omega arith in ap (λ (j : ℕ). get_or l j 0) e }
 
-  limited : (r : Read Image) (a : Stood r) (o : Out) (l : LayoutResult LayoutState) → Gives s b o l → Within g o → Limited s b l
-  limited r a o l e w =
-      let n : sizes o.nodes * PLACES ≤ length (rows o.nodes 0) = omega (arith, length_rows o.nodes 0) in
+  limited : (chosen : ℕ) (r : Read Image) (a : Stood r) (o : Out) (l : LayoutResult LayoutState) → Gives chosen s b o l → Within g o → Limited s b l
+  limited chosen r a o l e w =
+      let ns = laid_nodes chosen s b o.nodes in
+      let n : sizes o.nodes * PLACES ≤ length (rows ns 0) = omega (arith, length_rows ns 0, laid_size chosen s b o.nodes) in
       record {
         right =
-            subst₂ (λ (x : List ℕ) (k : ℕ). wrong_place s b x 0 k ≡ None) (sym e.rows_due_of) (zero-add (sizes o.nodes) ∙ sym e.row_due)
-            (due_passes a.stood w (rows o.nodes 0) (held (rows o.nodes 0)) n);
+            λ rule.
+            subst₂ (λ (x : List ℕ) (k : ℕ). wrong_place_by rule s b x 0 k ≡ None) (sym e.rows_due_of) (zero-add (sizes o.nodes) ∙ sym e.row_due)
+            (due_passes_by a.stood rule (str_columns chosen s b) w (rows ns 0) (held (rows ns 0)) n);
         rows_few = omega (arith, e.row_due, w.rows);
         numbers_few = omega (arith, e.number_due, w.numbers);
         position_in = omega (arith, e.position_due, w.position);
@@ -86,9 +90,9 @@ module _ (s b : List ℕ) where
       record {
         at_stop =
             λ k n i.
-            limited r a _ _ (f.at_stop k n i)
+            limited k.rule r a _ _ (f.at_stop k n i)
             (up_to_within a.stood (take n t.declarations) (drop n t.declarations) (take-append-drop n t.declarations));
-        closed = λ k. limited r a _ _ (f.closed_in k) (closed_within a.stood (keeps_waiting k.mode));
+        closed = λ k. limited k.rule r a _ _ (f.closed_in k) (closed_within a.stood (keeps_waiting k.mode));
       }
 
   pub all_limited : read_refusal (read_all s b) ≡ None → AllLimited (read_all s b) s b (accepted_tree b (read_all s b))

@@ -16,7 +16,7 @@ use Rattle.rows.specs.Node.{line, empty_line, line_or_space, if_wrap, call, none
 use Rattle.rows.specs.View.{View, cell, view_of, first_of, node_of, end_in, second_in, decode, nodes_at}
 use Rattle.rows.proofs.Decode.{step, decode_none}
 use Rattle.rows.specs.Nesting.{RangeIn, TwoParts, Split, Nests, over, leaf, block, two, pair}
-use Rattle.renderer_rules.specs.Check.{places_fit}
+use Rattle.renderer_rules.specs.Check.{places_fit, places_fit_by, text_whole}
 use Rattle.cut_rule.specs.Laws.{SameBefore}
 
 -- ---- views that show the same rows in a range
@@ -142,10 +142,10 @@ nests_local {v} {i} {j} {d} u s (pair a w t q g h l) =
     (subst (λ (k : ℕ). Nests u k j d) x.after (nests_local u (λ k m n. s k (omega (arith, w.up)) n) l))
 
 -- ---- that their places are right
-pub places_by_cells : (s b store other : List ℕ) (k l : ℕ) → ((c : ℕ) → c < 9 → cell store k c ≡ cell other l c)
-    → places_fit s b store k ≡ places_fit s b other l
-unfolding places_fit
-places_by_cells s b store other k l at =
+pub places_by_cells : (rule : ℕ) (s b store other : List ℕ) (k l : ℕ) → ((c : ℕ) → c < 9 → cell store k c ≡ cell other l c)
+    → places_fit_by rule s b store k ≡ places_fit_by rule s b other l
+unfolding places_fit_by places_fit text_whole
+places_by_cells rule s b store other k l at =
     rw (
       at 0 (omega arith),
       at 1 (omega arith),
@@ -179,5 +179,5 @@ module _ (n : ℕ) (store other : List ℕ) (e : SameBefore n store other) where
         width = λ t. cond (eqb (at 0 (omega arith) t) 5) (at 8 (omega arith) t) 0;
       }
 
-  pub places_same : (s b : List ℕ) (k : ℕ) → k < n → places_fit s b store k ≡ places_fit s b other k
-  places_same s b k q = places_by_cells s b store other k k (λ c l. cell_same k c q l)
+  pub places_same : (rule : ℕ) (s b : List ℕ) (k : ℕ) → k < n → places_fit_by rule s b store k ≡ places_fit_by rule s b other k
+  places_same rule s b k q = places_by_cells rule s b store other k k (λ c l. cell_same k c q l)

@@ -14,7 +14,7 @@ use Rattle.rows.specs.Node.{Nodes}
 use Rattle.rows.specs.View.{view_of, nodes_at}
 use Rattle.marks.specs.Marks.{marks_needed}
 use Rattle.renderer_rules.specs.Renderer.{Page, Renderer, with_buf, with_marks, with_widest, render_nodes}
-use Rattle.renderer_rules.specs.Check.{wrong_place}
+use Rattle.renderer_rules.specs.Check.{wrong_place_by}
 use Rattle.renderer_rules.proofs.Joined.{renders_ranges}
 use Rattle.cut_rule.specs.Rules.{RenderTo}
 use Rattle.cut_rule.specs.Laws.{RenderAfter, SameBefore}
@@ -87,7 +87,7 @@ module _ (s b : List ℕ) where
 
   -- to the stop of p, and on to row m
   draw_on : (z : RenderState) (p : RenderTo RenderChoice) (m : ℕ) (marks store : List ℕ) → z.row ≤ p.stop → p.stop ≤ m
-      → wrong_place s b store z.row p.stop ≡ None → needed store 0 m ≤ length marks
+      → wrong_place_by p.choice.rule s b store z.row p.stop ≡ None → needed store 0 m ≤ length marks
       → drawn s b z (record { stop = m; choice = p.choice }) marks store
       ≡ then_drawn (drawn s b z p marks store) (λ ms.
       drawn_by (render_nodes (page p.choice s b) (nodes_at (view_of store) p.stop m) true (renderer_of (drawn s b z p marks store).pen ms)))
@@ -96,31 +96,31 @@ module _ (s b : List ℕ) where
       let y = page p.choice s b in
       let r = renderer_of z.pen marks in
       let ns = nodes_at v p.stop m in
-      ap drawn_by (renders_ranges y m true r (right s b store z.row p.stop l e).nests h)
+      ap drawn_by (renders_ranges y m true r (right p.choice.rule s b store z.row p.stop l e).nests h)
       ∙ resumed y ns (rendering s b z p marks store)
       (subst (λ (k : ℕ). Unders k ns) (sym (renders_length y (nodes_at v z.row p.stop) true r)) (under_marks store marks p.stop m g))
 
   draw_join : (z t : RenderState) (p q : RenderTo RenderChoice) (marks store : List ℕ) → z.row ≡ 0 → RenderAfter p q
-      → wrong_place s b store 0 p.stop ≡ None → needed store 0 q.stop ≤ length marks → StoppedAt p.stop (drawn s b z p marks store) t
+      → wrong_place_by p.choice.rule s b store 0 p.stop ≡ None → needed store 0 q.stop ≤ length marks → StoppedAt p.stop (drawn s b z p marks store) t
       → drawn s b z q marks store ≡ then_drawn (drawn s b z p marks store) (λ ms. drawn s b t q ms store)
   draw_join z t p q marks store start a e g there =
       let row = sym there.row in
       let pen = sym there.pen in
       ap (λ (c : RenderChoice). drawn s b z (record { stop = q.stop; choice = c }) marks store) (sym a.same)
-      ∙ draw_on z p q.stop marks store (omega (arith, start)) a.not_past (subst (λ (i : ℕ). wrong_place s b store i p.stop ≡ None) (sym start) e) g
+      ∙ draw_on z p q.stop marks store (omega (arith, start)) a.not_past (subst (λ (i : ℕ). wrong_place_by p.choice.rule s b store i p.stop ≡ None) (sym start) e) g
       ∙ (λ i.
       then_drawn (drawn s b z p marks store)
       (λ ms. drawn_by (render_nodes (page (a.same i) s b) (nodes_at (view_of store) (row i) q.stop) true (renderer_of (pen i) ms))))
 
   pub render_parts : (r : Read Image) → RenderPartLaws (parts_by r s b)
   render_parts r = record {
-    none_wrong = λ c store. none_found s b store 0 0 (right_none s b store);
+    none_wrong = λ c store. none_found c.rule s b store 0 0 (right_none c.rule s b store);
     right_join =
         λ c store n m h e f.
-        none_found s b store 0 m (right_both s b store n m (right s b store 0 n (omega arith) e) (right s b store n m h f));
+        none_found c.rule s b store 0 m (right_both c.rule s b store n m (right c.rule s b store 0 n (omega arith) e) (right c.rule s b store n m h f));
     needed_join = needed_join;
     right_local =
-        λ c store other n e f. none_found s b other 0 n (right_same s b store other n e (right s b store 0 n (omega arith) f));
+        λ c store other n e f. none_found c.rule s b other 0 n (right_same c.rule s b store other n e (right c.rule s b store 0 n (omega arith) f));
     needed_local = needed_local;
     draw_local = draw_local;
     draw_marks =

@@ -17,7 +17,7 @@ use Rattle.laws.proofs.Options.{never}
 use Rattle.rows.specs.View.{View, view_of}
 use Rattle.rows.specs.Nesting.{RangeIn, Nests, over}
 use Rattle.rows.proofs.Nested.{nests_join}
-use Rattle.renderer_rules.specs.Check.{row_fits_of, or_later, first_wrong, wrong_row_of, places_fit, wrong_place}
+use Rattle.renderer_rules.specs.Check.{row_fits_of, or_later, first_wrong, wrong_row_of, places_fit_by, wrong_place_by}
 use Rattle.laws.proofs.Booleans.{both}
 use Rattle.renderer_rules.proofs.Checked.{no_wrong, fits_row, accepted_nests, nested_accepted}
 use Rattle.cut_rule.specs.Laws.{SameBefore}
@@ -66,55 +66,55 @@ module _ (places : ℕ → Bool) (v : View) where
   accepted_places end d i k e p q = fit (end - i) end d i k e (omega arith) p q
 
 -- ---- 11 as a statement
-pub record Right (s b store : List ℕ) (i n : ℕ) : Type 0 where
+pub record Right (rule : ℕ) (s b store : List ℕ) (i n : ℕ) : Type 0 where
   pub few : n ≤ MAX_ROWS
   pub room : n * PLACES ≤ length store
   pub nests : Nests (view_of store) i n 0
-  pub places : (k : ℕ) → i ≤ k → k < n → places_fit s b store k ≡ true
+  pub places : (k : ℕ) → i ≤ k → k < n → places_fit_by rule s b store k ≡ true
 
-module _ (s b : List ℕ) where
-  pub right : (store : List ℕ) (i n : ℕ) → i ≤ n → wrong_place s b store i n ≡ None → Right s b store i n
-  unfolding wrong_place
+module _ (rule : ℕ) (s b : List ℕ) where
+  pub right : (store : List ℕ) (i n : ℕ) → i ≤ n → wrong_place_by rule s b store i n ≡ None → Right rule s b store i n
+  unfolding wrong_place_by
   right store i n h e = go (leb n MAX_ROWS && leb (n * PLACES) (length store)) refl e
     where
       go : (c : Bool) → (leb n MAX_ROWS && leb (n * PLACES) (length store)) ≡ c
-          → cond c (wrong_row_of (places_fit s b store) (view_of store) n 0 i) (Some 0) ≡ None
-          → Right s b store i n
+          → cond c (wrong_row_of (places_fit_by rule s b store) (view_of store) n 0 i) (Some 0) ≡ None
+          → Right rule s b store i n
       go true q e =
           let x = both (leb n MAX_ROWS) (leb (n * PLACES) (length store)) q in
           record {
             few = leb-true n MAX_ROWS x.0;
             room = leb-true (n * PLACES) (length store) x.1;
-            nests = accepted_nests (places_fit s b store) (view_of store) n 0 i e h;
-            places = λ k p q. accepted_places (places_fit s b store) (view_of store) n 0 i k e p q;
+            nests = accepted_nests (places_fit_by rule s b store) (view_of store) n 0 i e h;
+            places = λ k p q. accepted_places (places_fit_by rule s b store) (view_of store) n 0 i k e p q;
           }
       go false q e = absurd (never 0 e)
 
-  pub none_found : (store : List ℕ) (i n : ℕ) → Right s b store i n → wrong_place s b store i n ≡ None
-  unfolding wrong_place
+  pub none_found : (store : List ℕ) (i n : ℕ) → Right rule s b store i n → wrong_place_by rule s b store i n ≡ None
+  unfolding wrong_place_by
   none_found store i n r =
       rw (le-leb n MAX_ROWS r.few, le-leb (n * PLACES) (length store) r.room)
-      (nested_accepted (places_fit s b store) (view_of store) n 0 i r.nests r.places)
+      (nested_accepted (places_fit_by rule s b store) (view_of store) n 0 i r.nests r.places)
 
   -- no rows
-  pub right_none : (store : List ℕ) → Right s b store 0 0
+  pub right_none : (store : List ℕ) → Right rule s b store 0 0
   right_none store = record { few = omega arith; room = omega arith; nests = over refl; places = λ k p q. absurd (omega arith) }
 
   -- rows, and rows behind them
-  pub right_both : (store : List ℕ) (n m : ℕ) → Right s b store 0 n → Right s b store n m → Right s b store 0 m
+  pub right_both : (store : List ℕ) (n m : ℕ) → Right rule s b store 0 n → Right rule s b store n m → Right rule s b store 0 m
   right_both store n m x y =
       record { few = y.few; room = y.room; nests = nests_join x.nests y.nests; places = λ k p q. go k q (dec_lt k n) }
     where
-      go : (k : ℕ) → k < m → Dec (k < n) → places_fit s b store k ≡ true
+      go : (k : ℕ) → k < m → Dec (k < n) → places_fit_by rule s b store k ≡ true
       go k q (yes l) = x.places k (omega arith) l
       go k q (no l) = y.places k (omega arith) q
 
   -- a store with the same rows before the stop
-  pub right_same : (store other : List ℕ) (n : ℕ) → SameBefore n store other → Right s b store 0 n → Right s b other 0 n
+  pub right_same : (store other : List ℕ) (n : ℕ) → SameBefore n store other → Right rule s b store 0 n → Right rule s b other 0 n
   right_same store other n e x =
       record {
         few = x.few;
         room = omega (arith, x.room, length-take (PLACES * n) store, length-take (PLACES * n) other, ap length e);
         nests = nests_local (view_of other) (rows_same n store other e 0) x.nests;
-        places = λ k p q. sym (places_same n store other e s b k q) ∙ x.places k p q;
+        places = λ k p q. sym (places_same n store other e rule s b k q) ∙ x.places k p q;
       }

@@ -43,9 +43,12 @@ use Rattle.cut_rule.specs.Plain.{Progress, at_first, layout_due, render_due, lai
 use Rattle.cut_rule.specs.States.{LayoutChoice, RenderChoice, LayoutState, RenderState, layout_fresh, render_fresh, NEW_MODE}
 use Rattle.cut_rule.specs.Parts.{Piece}
 use Rattle.cut_rule.proofs.Document.{LaidFits, RenderedRight, came_to}
+use Rattle.node_widths.specs.Summed.{laid_nodes as laid_by}
+use Rattle.node_widths.specs.Measured.{ascii_columns}
+use Rattle.whole_run.proofs.Laid.{laid_size, laid_pieces, laid_chosen}
 use Rattle.whole_run.specs.Parts.{listed, keeps_waiting, page, renderer_of, parts_of}
 use Rattle.whole_run.specs.Demands.{rules_of, Gives, laid_to}
-use Rattle.whole_run.specs.Built.{FileChoice, render_choice, tree, declared, built, marks_due, drawn_due}
+use Rattle.whole_run.specs.Built.{FileChoice, render_choice, tree, declared, built, laid as file_laid, marks_due, drawn_due}
 use Rattle.whole_run.specs.File.{file_refusal, file_result, FileResult, file_output}
 use Rattle.whole_run.specs.Text.{Keeps, IsProgram, KeptCommentsHeld, TextIsTheProgram, NewModePlacesAll, OutputIsTheProgram, program_to, pieces_between}
 use Rattle.whole_run.specs.Text.{SoFar, AllRendered, IsSoFar, IsWhole, CallsKeepTheText}
@@ -74,7 +77,7 @@ module _ (s b : List ℕ) where
   drawn_made : (ns : Nodes) → CommasChosen ns → (c : RenderChoice) (z : Pen) (marks : List ℕ)
       → MadeOf (text_bytes s b) (pieces ns) (render_nodes (page c s b) ns true (renderer_of z marks)).buf
   drawn_made ns chosen c z marks =
-      let a = writes_pieces c.width s b ns chosen true (renderer_of z marks) in
+      let a = writes_pieces c.width (ascii_columns c.rule s b) s b ns chosen true (renderer_of z marks) in
       subst (λ (t : List ℕ). MadeOf (text_bytes s b) (pieces ns) t) (sym a.same) a.made
 
   -- ---- a whole file
@@ -85,7 +88,9 @@ module _ (s b : List ℕ) where
     text_kept : Keeps s b (built s b c).placed (tokens_of b (tree s b)) (drawn_due s b c).text
     text_kept = record {
       these = pieces (built s b c).nodes;
-      made = drawn_made (built s b c).nodes said_whole.chosen (render_choice c) render_fresh.pen (replicate (marks_due s b c) 0);
+      made =
+          subst (λ (ps : List Part). MadeOf (text_bytes s b) ps (drawn_due s b c).text) (laid_pieces c.rule s b (built s b c).nodes)
+          (drawn_made (file_laid s b c) (laid_chosen c.rule s b (built s b c).nodes said_whole.chosen) (render_choice c) render_fresh.pen (replicate (marks_due s b c) 0));
       comments = same_comments (built s b c).nodes said_whole.chosen ∙ in_order (given s b) (tree s b) (keeps_waiting c.mode);
       others = said_whole.same;
     }
@@ -95,7 +100,7 @@ module _ (s b : List ℕ) where
 
     all_placed : read_refusal (read_all s b) ≡ None → c.mode ≡ NEW_MODE → (built s b c).placed ≡ length (listed s b)
     all_placed h new =
-        ap (λ (m : ℕ). (built s b (record { width = c.width; mode = m })).placed) new
+        ap (λ (m : ℕ). (built s b (record { width = c.width; mode = m; rule = c.rule })).placed) new
         ∙ (call_places (list s b h) (tree s b) true ds true fresh (omega arith)).placed
         ∙ sym listed_size
 
@@ -119,7 +124,7 @@ module _ (s b : List ℕ) where
     abbrev laid : Out
     laid = act fresh
 
-    given_due : Gives s b laid (laid_to (read_all s b) s b q)
+    given_due : Gives q.choice.rule s b laid (laid_to (read_all s b) s b q)
     given_due =
         let e = call_piece_lem (read_all s b) s b layout_fresh q (omega arith) k in
         gives (read_all s b) s b q act (ap (λ (p : Piece). p.rows) e) (ap (λ (p : Piece). p.cursor) e)
@@ -135,17 +140,18 @@ module _ (s b : List ℕ) where
 
     laid_nodes : LaidNodes (laid_to (read_all s b) s b q)
     laid_nodes =
-        let ns = laid.nodes in
+        let ns = laid_by q.choice.rule s b laid.nodes in
+        let same = laid_pieces q.choice.rule s b laid.nodes in
         let stop : q.stop - 0 ≡ q.stop = omega arith in
         record {
           nodes = ns;
           read =
-              ap₂ (λ (x : List ℕ) (n : ℕ). nodes_at (view_of x) 0 n) given_due.rows_due_of (given_due.row_due ∙ sym (zero-add (sizes ns)))
+              ap₂ (λ (x : List ℕ) (n : ℕ). nodes_at (view_of x) 0 n) given_due.rows_due_of (given_due.row_due ∙ sym (laid_size q.choice.rule s b laid.nodes) ∙ sym (zero-add (sizes ns)))
               ∙ flattened ns (rows ns 0) 0 (take-length (rows ns 0));
-          size = omega (arith, given_due.row_due, ap (λ (x : List ℕ). length x) given_due.rows_due_of, length_rows ns 0);
-          chosen = said.chosen;
-          comments = same_comments ns said.chosen ∙ placed ∙ ap (λ (n : ℕ). take n (listed s b)) (sym given_due.placed_due);
-          others = said.same ∙ ap (λ (n : ℕ). shebang_tokens b (tree s b).shebang & declarations_tokens (take n ds)) stop;
+          size = omega (arith, given_due.row_due, ap (λ (x : List ℕ). length x) given_due.rows_due_of, length_rows ns 0, laid_size q.choice.rule s b laid.nodes);
+          chosen = laid_chosen q.choice.rule s b laid.nodes said.chosen;
+          comments = ap comments_among same ∙ same_comments laid.nodes said.chosen ∙ placed ∙ ap (λ (n : ℕ). take n (listed s b)) (sym given_due.placed_due);
+          others = ap tokens_among same ∙ said.same ∙ ap (λ (n : ℕ). shebang_tokens b (tree s b).shebang & declarations_tokens (take n ds)) stop;
         }
 
   due_nodes : (o : Option (LayoutArgs LayoutChoice))
@@ -172,7 +178,7 @@ module _ (s b : List ℕ) where
   }
   shown_nodes store (Some p) k = record {
     room = k.0;
-    nests = (right s b store 0 p.stop (omega arith) k.1).nests;
+    nests = (right p.choice.rule s b store 0 p.stop (omega arith) k.1).nests;
     made = λ chosen. drawn_made (nodes_at (view_of store) 0 p.stop) chosen p.choice render_fresh.pen _;
   }
 

@@ -19,7 +19,9 @@ use Rattle.rows.specs.Rows.{sizes, rows}
 use Rattle.rows.specs.View.{view_of, nodes_at}
 use Rattle.rows.proofs.Flatten.{flattened}
 use Rattle.acts.specs.Act.{Given, St, Act, ◌⨟◌, when, skip, next}
-use Rattle.acts.proofs.Joins.{sizes_join, rows_join}
+use Rattle.acts.proofs.Joins.{sizes_join}
+use Rattle.node_widths.specs.Summed.{summed_all, laid_nodes}
+use Rattle.whole_run.proofs.Laid.{laid_size, laid_join}
 use Rattle.comments.specs.Comments.{nth}
 use Rattle.tree.specs.CommentList.{comments_of}
 use Rattle.comments.specs.Listed.{given}
@@ -34,22 +36,22 @@ use Rattle.whole_run.specs.Parts.{accepted_tree, act_piece, declaration_act, kee
 use Rattle.whole_run.specs.Demands.{Gives, laid_to, stopping_at, closing_at, FmtParsed}
 
 -- ---- pieces
-piece_then : (a b : Act) (c : Cursor) → act_piece (a ⨟ b) c ≡ and_then (act_piece a c) (act_piece b)
+piece_then : (rule : ℕ) (s b : List ℕ) (p q : Act) (c : Cursor) → act_piece rule s b (p ⨟ q) c ≡ and_then (act_piece rule s b p c) (act_piece rule s b q)
 unfolding ◌⨟◌
-piece_then a b c =
+piece_then rule s b p q c =
     let z : St = record { number = c.number; pos = c.position; placed = c.placed } in
-    let o = a z in
-    let p = b (next z o) in
-    let e : c.row + sizes (join o.nodes p.nodes) ≡ c.row + sizes o.nodes + sizes p.nodes =
-    omega (arith, sizes_join o.nodes p.nodes)
+    let o = p z in
+    let u = q (next z o) in
+    let e : c.row + sizes (join o.nodes u.nodes) ≡ c.row + sizes o.nodes + sizes u.nodes =
+    omega (arith, sizes_join o.nodes u.nodes)
     in
-    let f : c.number + (o.taken + p.taken) ≡ c.number + o.taken + p.taken = omega arith in
-    let r = rows_join o.nodes p.nodes c.row in
-    λ t. record { cursor = record { row = e t; number = f t; placed = p.placed; position = p.pos }; rows = r t }
+    let f : c.number + (o.taken + u.taken) ≡ c.number + o.taken + u.taken = omega arith in
+    let r = laid_join rule s b o.nodes u.nodes c.row in
+    λ t. record { cursor = record { row = e t; number = f t; placed = u.placed; position = u.pos }; rows = r t }
 
-piece_skip : (c : Cursor) → act_piece skip c ≡ still c
-unfolding rows sizes
-piece_skip c =
+piece_skip : (rule : ℕ) (s b : List ℕ) (c : Cursor) → act_piece rule s b skip c ≡ still c
+unfolding rows sizes summed_all
+piece_skip rule s b c =
     λ t. record { cursor = record { row = add-zero c.row t; number = add-zero c.number t; placed = c.placed; position = c.position }; rows = [] }
 
 then_at : (p : Piece) (f g : Cursor → Piece) → f p.cursor ≡ g p.cursor → and_then p f ≡ and_then p g
@@ -62,8 +64,8 @@ then_then p f g =
 then_still : (p : Piece) → and_then p still ≡ p
 then_still p = λ t. record { cursor = p.cursor; rows = append-nil p.rows t }
 
-then_skip : (p : Piece) → and_then p (act_piece skip) ≡ p
-then_skip p = then_at p (act_piece skip) still (piece_skip p.cursor) ∙ then_still p
+then_skip : (rule : ℕ) (s b : List ℕ) (p : Piece) → and_then p (act_piece rule s b skip) ≡ p
+then_skip rule s b p = then_at p (act_piece rule s b skip) still (piece_skip rule s b p.cursor) ∙ then_still p
 
 -- ---- one declaration more
 abbrev flag : ℕ → Bool → Bool
@@ -88,26 +90,26 @@ abbrev one : Given → Bool → Option Declaration → Act
 one g first nothing = skip
 one g first (Some d) = declaration g d first
 
-module _ (g : Given) where
+module _ (rule : ℕ) (s b : List ℕ) (g : Given) where
   more : (n : ℕ) (ds : List Declaration) (first : Bool) (c : Cursor) → n < length ds
-      → act_piece (declarations_rule g (take (suc n) ds) first) c
-      ≡ and_then (act_piece (declarations_rule g (take n ds) first) c) (act_piece (one g (flag n first) (nth ds n)))
+      → act_piece rule s b (declarations_rule g (take (suc n) ds) first) c
+      ≡ and_then (act_piece rule s b (declarations_rule g (take n ds) first) c) (act_piece rule s b (one g (flag n first) (nth ds n)))
   unfolding declarations_rule nth
   more n [] first c h = absurd (omega arith)
   more zero (d ∷ ds) first c h =
-      piece_then (declaration g d first) skip c
-      ∙ then_skip (act_piece (declaration g d first) c)
-      ∙ ap (λ (p : Piece). and_then p (act_piece (declaration g d first))) (sym (piece_skip c))
+      piece_then rule s b (declaration g d first) skip c
+      ∙ then_skip rule s b (act_piece rule s b (declaration g d first) c)
+      ∙ ap (λ (p : Piece). and_then p (act_piece rule s b (declaration g d first))) (sym (piece_skip rule s b c))
   more (suc n) (d ∷ ds) first c h =
       let a = declaration g d first in
-      let last = act_piece (one g (flag n false) (nth ds n)) in
-      piece_then a (declarations_rule g (take (suc n) ds) false) c
-      ∙ then_at (act_piece a c) (act_piece (declarations_rule g (take (suc n) ds) false))
-      (λ x. and_then (act_piece (declarations_rule g (take n ds) false) x) last)
-      (more n ds false (act_piece a c).cursor (omega arith))
-      ∙ sym (then_then (act_piece a c) (act_piece (declarations_rule g (take n ds) false)) last)
-      ∙ ap (λ (p : Piece). and_then p last) (sym (piece_then a (declarations_rule g (take n ds) false) c))
-      ∙ ap (λ (x : Bool). and_then (act_piece (a ⨟ declarations_rule g (take n ds) false) c) (act_piece (one g x (nth ds n)))) (flag_false n)
+      let last = act_piece rule s b (one g (flag n false) (nth ds n)) in
+      piece_then rule s b a (declarations_rule g (take (suc n) ds) false) c
+      ∙ then_at (act_piece rule s b a c) (act_piece rule s b (declarations_rule g (take (suc n) ds) false))
+      (λ x. and_then (act_piece rule s b (declarations_rule g (take n ds) false) x) last)
+      (more n ds false (act_piece rule s b a c).cursor (omega arith))
+      ∙ sym (then_then (act_piece rule s b a c) (act_piece rule s b (declarations_rule g (take n ds) false)) last)
+      ∙ ap (λ (p : Piece). and_then p last) (sym (piece_then rule s b a (declarations_rule g (take n ds) false) c))
+      ∙ ap (λ (x : Bool). and_then (act_piece rule s b (a ⨟ declarations_rule g (take n ds) false) c) (act_piece rule s b (one g x (nth ds n)))) (flag_false n)
 
 -- ---- the whole, whatever was read
 module _ (r : Read Image) (s b : List ℕ) where
@@ -129,24 +131,24 @@ module _ (r : Read Image) (s b : List ℕ) where
 
   -- n declarations from declaration d on are the loop over these
   loop : (k : LayoutChoice) (n d : ℕ) (p : Piece) → d + n ≤ length ds
-      → several (parts_by r s b) k n d p ≡ and_then p (act_piece (declarations_rule g (take n (drop d ds)) (eqb d 0)))
+      → several (parts_by r s b) k n d p ≡ and_then p (act_piece k.rule s b (declarations_rule g (take n (drop d ds)) (eqb d 0)))
   unfolding declarations_rule
-  loop k zero d p h = sym (then_skip p)
+  loop k zero d p h = sym (then_skip k.rule s b p)
   loop k (suc n) d p h =
       let rest = drop d ds in
-      let rule = act_piece (declarations_rule g (take n rest) (eqb d 0)) in
-      let last = act_piece (one g (flag n (eqb d 0)) (nth rest n)) in
+      let rule = act_piece k.rule s b (declarations_rule g (take n rest) (eqb d 0)) in
+      let last = act_piece k.rule s b (one g (flag n (eqb d 0)) (nth rest n)) in
       let l = length-drop d ds in
-      ap (λ (x : Piece). and_then x (act_piece (declaration_act s b (d + n) (nth ds (d + n))))) (loop k n d p (omega arith))
-      ∙ ap (λ (a : Act). and_then (and_then p rule) (act_piece a)) (at_place d n)
+      ap (λ (x : Piece). and_then x (act_piece k.rule s b (declaration_act s b (d + n) (nth ds (d + n))))) (loop k n d p (omega arith))
+      ∙ ap (λ (a : Act). and_then (and_then p rule) (act_piece k.rule s b a)) (at_place d n)
       ∙ then_then p rule last
-      ∙ then_at p (λ c. and_then (rule c) last) (act_piece (declarations_rule g (take (suc n) rest) (eqb d 0)))
-      (sym (more g n rest (eqb d 0) p.cursor (omega arith)))
+      ∙ then_at p (λ c. and_then (rule c) last) (act_piece k.rule s b (declarations_rule g (take (suc n) rest) (eqb d 0)))
+      (sym (more k.rule s b g n rest (eqb d 0) p.cursor (omega arith)))
 
   -- what a call lays from any state, by the rules
   pub call_piece_lem : (z : LayoutState) (q : LayoutArgs LayoutChoice) → z.declaration ≤ q.stop → q.stop ≤ length ds
       → cut.call_piece (parts_by r s b) z q
-      ≡ act_piece (call_rule g tree (not z.begun) (take (q.stop - z.declaration) (drop z.declaration ds)) (eqb z.declaration 0) q.close
+      ≡ act_piece q.choice.rule s b (call_rule g tree (not z.begun) (take (q.stop - z.declaration) (drop z.declaration ds)) (eqb z.declaration 0) q.close
       (keeps_waiting q.choice.mode)) z.cursor
   call_piece_lem z q h l =
       let P = parts_by r s b in
@@ -158,33 +160,33 @@ module _ (r : Read Image) (s b : List ℕ) where
       let rule = declarations_rule g (take (stop - d) (drop d ds)) (eqb d 0) in
       let last = when close (closing g tree (keeps_waiting k.mode)) in
       ends k close (several P k (stop - d) d (begin P k z.begun z.cursor))
-      ∙ ap (λ (p : Piece). and_then p (act_piece last)) (loop k (stop - d) d (begin P k z.begun z.cursor) (omega arith))
-      ∙ ap (λ (p : Piece). and_then (and_then p (act_piece rule)) (act_piece last)) (begins k z.begun z.cursor)
-      ∙ then_then (act_piece a z.cursor) (act_piece rule) (act_piece last)
-      ∙ then_at (act_piece a z.cursor) (λ c. and_then (act_piece rule c) (act_piece last)) (act_piece (rule ⨟ last))
-      (sym (piece_then rule last (act_piece a z.cursor).cursor))
-      ∙ sym (piece_then a (rule ⨟ last) z.cursor)
+      ∙ ap (λ (p : Piece). and_then p (act_piece k.rule s b last)) (loop k (stop - d) d (begin P k z.begun z.cursor) (omega arith))
+      ∙ ap (λ (p : Piece). and_then (and_then p (act_piece k.rule s b rule)) (act_piece k.rule s b last)) (begins k z.begun z.cursor)
+      ∙ then_then (act_piece k.rule s b a z.cursor) (act_piece k.rule s b rule) (act_piece k.rule s b last)
+      ∙ then_at (act_piece k.rule s b a z.cursor) (λ c. and_then (act_piece k.rule s b rule c) (act_piece k.rule s b last)) (act_piece k.rule s b (rule ⨟ last))
+      (sym (piece_then k.rule s b rule last (act_piece k.rule s b a z.cursor).cursor))
+      ∙ sym (piece_then k.rule s b a (rule ⨟ last) z.cursor)
     where
       begins : (k : LayoutChoice) (begun : Bool) (c : Cursor)
-          → begin (parts_by r s b) k begun c ≡ act_piece (when (not begun) (shebang_rule g tree.shebang)) c
-      begins k true c = sym (piece_skip c)
+          → begin (parts_by r s b) k begun c ≡ act_piece k.rule s b (when (not begun) (shebang_rule g tree.shebang)) c
+      begins k true c = sym (piece_skip k.rule s b c)
       begins k false c = refl
 
       ends : (k : LayoutChoice) (close : Bool) (p : Piece)
-          → end (parts_by r s b) k close p ≡ and_then p (act_piece (when close (closing g tree (keeps_waiting k.mode))))
+          → end (parts_by r s b) k close p ≡ and_then p (act_piece k.rule s b (when close (closing g tree (keeps_waiting k.mode))))
       ends k true p = refl
-      ends k false p = sym (then_skip p)
+      ends k false p = sym (then_skip k.rule s b p)
 
   abbrev start : Cursor
   start = layout_fresh.cursor
 
   laid : (k : LayoutChoice) (n : ℕ) → n ≤ length ds
-      → several (parts_by r s b) k (n - 0) 0 ((parts_by r s b).shebang k start) ≡ act_piece (up_to g tree (take n ds)) start
+      → several (parts_by r s b) k (n - 0) 0 ((parts_by r s b).shebang k start) ≡ act_piece k.rule s b (up_to g tree (take n ds)) start
   laid k n h =
-      let one = act_piece (shebang_rule g tree.shebang) start in
+      let one = act_piece k.rule s b (shebang_rule g tree.shebang) start in
       ap (λ (j : ℕ). several (parts_by r s b) k j 0 one) (sub-zero n)
       ∙ loop k n 0 one (omega arith)
-      ∙ sym (piece_then (shebang_rule g tree.shebang) (declarations_rule g (take n ds) true) start)
+      ∙ sym (piece_then k.rule s b (shebang_rule g tree.shebang) (declarations_rule g (take n ds) true) start)
 
   -- rows of nodes render as the nodes do, since they are read back as those
   read_back : (ns : Nodes) (c : RenderChoice) (z : RenderState) (marks : List ℕ) → z.row ≡ 0
@@ -194,9 +196,9 @@ module _ (r : Read Image) (s b : List ℕ) where
       (ap₂ (nodes_at (view_of (rows ns 0))) h (sym (zero-add (sizes ns))) ∙ flattened ns (rows ns 0) 0 (take-length (rows ns 0)))
 
   -- a piece from the fresh cursor is what its step gives
-  pub gives : (q : LayoutArgs LayoutChoice) (a : Act) → (laid_to r s b q).rows ≡ (act_piece a start).rows
-      → (laid_to r s b q).state.cursor ≡ (act_piece a start).cursor
-      → Gives s b (a fresh) (laid_to r s b q)
+  pub gives : (q : LayoutArgs LayoutChoice) (a : Act) → (laid_to r s b q).rows ≡ (act_piece q.choice.rule s b a start).rows
+      → (laid_to r s b q).state.cursor ≡ (act_piece q.choice.rule s b a start).cursor
+      → Gives q.choice.rule s b (a fresh) (laid_to r s b q)
   gives q a e f = record {
     rows_due_of = e;
     row_due = ap (λ (c : Cursor). c.row) f ∙ zero-add (sizes (a fresh).nodes);
@@ -207,11 +209,11 @@ module _ (r : Read Image) (s b : List ℕ) where
     drawn_due_of =
         λ k z marks h.
         ap₂ (λ (x : List ℕ) (n : ℕ). drawn s b z (record { stop = n; choice = k }) marks x) e
-        (ap (λ (c : Cursor). c.row) f ∙ zero-add (sizes (a fresh).nodes))
-        ∙ read_back (a fresh).nodes k z marks h;
+        (ap (λ (c : Cursor). c.row) f ∙ zero-add (sizes (a fresh).nodes) ∙ sym (laid_size q.choice.rule s b (a fresh).nodes))
+        ∙ read_back (laid_nodes q.choice.rule s b (a fresh).nodes) k z marks h;
   }
 
-  closed_in : (k : LayoutChoice) → Gives s b (whole_rule g tree (keeps_waiting k.mode) fresh) (laid_to r s b (closing_at k (length ds)))
+  closed_in : (k : LayoutChoice) → Gives k.rule s b (whole_rule g tree (keeps_waiting k.mode) fresh) (laid_to r s b (closing_at k (length ds)))
   closed_in k =
       gives (closing_at k (length ds)) (whole_rule g tree (keeps_waiting k.mode)) (ap (λ (p : Piece). p.rows) closes)
       (ap (λ (p : Piece). p.cursor) closes)
@@ -219,18 +221,18 @@ module _ (r : Read Image) (s b : List ℕ) where
       last : Act
       last = closing g tree (keeps_waiting k.mode)
 
-      closes : and_then (several (parts_by r s b) k (length ds - 0) 0 ((parts_by r s b).shebang k start)) (act_piece last)
-          ≡ act_piece (whole_rule g tree (keeps_waiting k.mode)) start
+      closes : and_then (several (parts_by r s b) k (length ds - 0) 0 ((parts_by r s b).shebang k start)) (act_piece k.rule s b last)
+          ≡ act_piece k.rule s b (whole_rule g tree (keeps_waiting k.mode)) start
       closes =
           let one = shebang_rule g tree.shebang in
           let rule = declarations_rule g ds true in
-          ap (λ (p : Piece). and_then p (act_piece last)) (laid k (length ds) (omega arith))
-          ∙ ap (λ (xs : List Declaration). and_then (act_piece (up_to g tree xs) start) (act_piece last)) (take-length ds)
-          ∙ ap (λ (p : Piece). and_then p (act_piece last)) (piece_then one rule start)
-          ∙ then_then (act_piece one start) (act_piece rule) (act_piece last)
-          ∙ then_at (act_piece one start) (λ c. and_then (act_piece rule c) (act_piece last)) (act_piece (rule ⨟ last))
-          (sym (piece_then rule last (act_piece one start).cursor))
-          ∙ sym (piece_then one (rule ⨟ last) start)
+          ap (λ (p : Piece). and_then p (act_piece k.rule s b last)) (laid k (length ds) (omega arith))
+          ∙ ap (λ (xs : List Declaration). and_then (act_piece k.rule s b (up_to g tree xs) start) (act_piece k.rule s b last)) (take-length ds)
+          ∙ ap (λ (p : Piece). and_then p (act_piece k.rule s b last)) (piece_then k.rule s b one rule start)
+          ∙ then_then (act_piece k.rule s b one start) (act_piece k.rule s b rule) (act_piece k.rule s b last)
+          ∙ then_at (act_piece k.rule s b one start) (λ c. and_then (act_piece k.rule s b rule c) (act_piece k.rule s b last)) (act_piece k.rule s b (rule ⨟ last))
+          (sym (piece_then k.rule s b rule last (act_piece k.rule s b one start).cursor))
+          ∙ sym (piece_then k.rule s b one (rule ⨟ last) start)
 
   pub fmt_parsed_lem : FmtParsed r s b tree
   unfolding fmt_parsed
@@ -239,6 +241,6 @@ module _ (r : Read Image) (s b : List ℕ) where
         λ k n h.
         let e = laid k n h in
         gives (stopping_at k n) (up_to g tree (take n ds)) (ap (λ (p : Piece). p.rows) e) (ap (λ (p : Piece). p.cursor) e);
-    closed = λ k e. subst (λ (m : ℕ). Gives s b (whole_rule g tree (keeps_waiting m) fresh) (laid_to r s b (closing_at k (length ds)))) e (closed_in k);
+    closed = λ k e. subst (λ (m : ℕ). Gives k.rule s b (whole_rule g tree (keeps_waiting m) fresh) (laid_to r s b (closing_at k (length ds)))) e (closed_in k);
     closed_in = closed_in;
   }

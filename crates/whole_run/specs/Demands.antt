@@ -11,7 +11,8 @@ use Rattle.comments.specs.Listed.{given}
 use Rattle.layout.specs.Layout.{fmt_parsed}
 use Rattle.layout.specs.Closing.{fresh, up_to, whole_rule}
 use Rattle.renderer_rules.specs.Renderer.{render_nodes}
-use Rattle.renderer_rules.specs.Check.{wrong_place}
+use Rattle.node_widths.specs.Summed.{laid_nodes}
+use Rattle.renderer_rules.specs.Check.{wrong_place_by}
 use Rattle.cut_rule.specs.Rules.{LayoutArgs, LayoutResult, Rules}
 use Rattle.cut_rule.specs.Run.{Call, start}
 use Rattle.cut_rule.specs.Plain.{AllReadLaid}
@@ -38,9 +39,9 @@ RulesCut =
 
 -- ---- what is due at a stop
 -- what layout gives is what a step of the layout rules gives: its nodes as rows, its numbers, its position, the comments that it placed; and
--- these rows render as the nodes do, from every state at row 0, whatever is chosen
-pub record Gives (s b : List ℕ) (o : Out) (l : LayoutResult LayoutState) : Type 0 where
-  pub rows_due_of : l.rows ≡ rows o.nodes 0
+-- these rows render as the nodes do, from every state at row 0, whatever is chosen. The nodes have the sums of the rule that layout chose.
+pub record Gives (rule : ℕ) (s b : List ℕ) (o : Out) (l : LayoutResult LayoutState) : Type 0 where
+  pub rows_due_of : l.rows ≡ rows (laid_nodes rule s b o.nodes) 0
   pub row_due : l.state.cursor.row ≡ sizes o.nodes
   pub number_due : l.state.cursor.number ≡ o.taken
   pub position_due : l.state.cursor.position ≡ o.pos
@@ -48,7 +49,7 @@ pub record Gives (s b : List ℕ) (o : Out) (l : LayoutResult LayoutState) : Typ
   pub left_due_of : l.left ≡ length (comments_of b) - o.placed
   pub drawn_due_of : (c : RenderChoice) (z : RenderState) (marks : List ℕ) → z.row ≡ 0
       → drawn s b z (record { stop = l.state.cursor.row; choice = c }) marks l.rows
-      ≡ drawn_by (render_nodes (page c s b) o.nodes true (renderer_of z.pen marks))
+      ≡ drawn_by (render_nodes (page c s b) (laid_nodes rule s b o.nodes) true (renderer_of z.pen marks))
 
 -- layout from fresh, in one go
 abbrev pub laid_to : Read Image → List ℕ → List ℕ → LayoutArgs LayoutChoice → LayoutResult LayoutState
@@ -66,20 +67,20 @@ closing_at k n = record { stop = n; close = true; choice = k }
 -- is refused nothing is laid out but what closing adds.)
 pub record FmtParsed (r : Read Image) (s b : List ℕ) (t : SyntaxTree) : Type 0 where
   pub at_stop : (k : LayoutChoice) (n : ℕ) → n ≤ length t.declarations
-      → Gives s b (up_to (given s b) t (take n t.declarations) fresh) (laid_to r s b (stopping_at k n))
+      → Gives k.rule s b (up_to (given s b) t (take n t.declarations) fresh) (laid_to r s b (stopping_at k n))
   pub closed : (k : LayoutChoice) → k.mode ≡ OLD_MODE
-      → Gives s b (fmt_parsed (given s b) t fresh) (laid_to r s b (closing_at k (length t.declarations)))
+      → Gives k.rule s b (fmt_parsed (given s b) t fresh) (laid_to r s b (closing_at k (length t.declarations)))
   pub closed_in : (k : LayoutChoice)
-      → Gives s b (whole_rule (given s b) t (keeps_waiting k.mode) fresh) (laid_to r s b (closing_at k (length t.declarations)))
+      → Gives k.rule s b (whole_rule (given s b) t (keeps_waiting k.mode) fresh) (laid_to r s b (closing_at k (length t.declarations)))
 
 abbrev pub DueIsFmtParsed : Type 0
 DueIsFmtParsed = (r : Read Image) (s b : List ℕ) → FmtParsed r s b (accepted_tree b r)
 
 -- ---- what is laid out of an accepted image
--- It is within document 01's limits: 11 finds nothing wrong with its rows ("That no accepted tree yields deeper rows is proved"), and 12 none of
+-- It is within document 01's limits: 11 finds nothing wrong with its rows, by no rule ("That no accepted tree yields deeper rows is proved"), and 12 none of
 -- its numbers too large.
 pub record Limited (s b : List ℕ) (l : LayoutResult LayoutState) : Type 0 where
-  pub right : wrong_place s b l.rows 0 l.state.cursor.row ≡ None
+  pub right : (rule : ℕ) → wrong_place_by rule s b l.rows 0 l.state.cursor.row ≡ None
   pub rows_few : l.state.cursor.row ≤ MAX_ROWS
   pub numbers_few : l.state.cursor.number ≤ MAX_NUMBER
   pub position_in : l.state.cursor.position ≤ length s

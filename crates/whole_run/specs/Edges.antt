@@ -3,6 +3,7 @@
 use Rattle.std.specs.Prelude.{◌≡◌, List, [], ◌∷◌, ◌++◌, map, Bool, ℕ, zero, suc, ◌+◌, ◌<◌, length, replicate, Option, None, Some}
 use Rattle.image.specs.Write.{Plain, Plains, without, plainly, done, ◌next◌, bytes4, framed, written}
 use Rattle.ast.specs.Syntax.{Span}
+use Rattle.widths.specs.Rules.{SUPPLIED}
 use Rattle.rows.specs.Ascii.{bytes}
 use Rattle.rows.specs.Node.{Text, Node, Nodes, group, indent, indent_next, comment, ascii, line, empty_line, line_or_space, call, none as nothing, ◌then◌}
 use Rattle.rows.specs.Places.{KIND}
@@ -81,11 +82,11 @@ renders_at width e =
       store = rows e.nodes 0;
       marks = 0 ∷ 0 ∷ [];
       layout_state_of = layout_fresh;
-      render_state_of = record { pen = record { indent = e.indent; next_indent = 0; column = record { 0 = e.column } }; in_use = 0; row = 0; width = 0 };
+      render_state_of = record { pen = record { indent = e.indent; next_indent = 0; column = record { 0 = e.column } }; in_use = 0; row = 0; width = 0; rule = 0 };
       text = [];
       left = None;
     } in
-    seen e.source no_body (run r w (render_call (record { to = record { stop = sizes e.nodes; choice = record { width = width } }; room = 300 }) ∷ []))
+    seen e.source no_body (run r w (render_call (record { to = record { stop = sizes e.nodes; choice = record { width = width; rule = SUPPLIED } }; room = 300 }) ∷ []))
 
 -- "two bytes, the number of comments; for each, start and end, four bytes each; one tree record"
 abbrev pub pairs : List Span → List ℕ
@@ -106,8 +107,8 @@ formats_as f =
     let r = rules_of f.source image in
     seen f.source image
     (run r (start r (replicate 216 0) (0 ∷ 0 ∷ []))
-    (layout_call (closing_at (record { mode = f.mode }) (length f.declarations))
-    ∷ render_call (record { to = record { stop = f.rows; choice = record { width = REFERENCE_WIDTH } }; room = 200 })
+    (layout_call (closing_at (record { mode = f.mode; rule = SUPPLIED }) (length f.declarations))
+    ∷ render_call (record { to = record { stop = f.rows; choice = record { width = REFERENCE_WIDTH; rule = SUPPLIED } }; room = 200 })
     ∷ []))
 
 abbrev pub observed : Edge → Seen

@@ -13,8 +13,8 @@ use Rattle.refusals.specs.Answers.{Answer, accepted, answer_by}
 use Rattle.cut_rule.specs.Run.{write_front}
 use Rattle.cut_rule.specs.States.{layout_fresh, render_fresh, OLD_MODE, NEW_MODE}
 use Rattle.cut_rule.specs.Tests.{rows_in, mode_tests}
-use Rattle.cut_rule.specs.Parts.{width_line}
-use Rattle.whole_run.specs.Built.{FileChoice, layout_choice, render_choice, tree, built, rows_due, marks_due, drawn_due}
+use Rattle.cut_rule.specs.Parts.{rule_line, width_line}
+use Rattle.whole_run.specs.Built.{FileChoice, layout_choice, render_choice, tree, built, laid, rows_due, marks_due, drawn_due}
 
 -- What the run has of its own: "It has 1,800 rows, 1,800 marks and 65,536 output bytes." The output is lent.
 abbrev pub file_rows : ℕ
@@ -29,9 +29,9 @@ mode_line c = refuse_if (any (mode_tests (layout_choice c) layout_fresh)) 12 0
 
 module _ (s b : List ℕ) where
   -- ---- the table, in parts
-  -- the lines before it is counted how many rows there will be: 1 to 7, then 12 and 15, a fresh state carrying no width
+  -- the lines before it is counted how many rows there will be: 20, 1 to 7, then 12 and 15, a fresh state carrying no width
   abbrev pub file_before_rows : FileChoice → List (Option Refusal)
-  file_before_rows c = read_refusal (read_all s b) ∷ mode_line c ∷ width_line (render_choice c) render_fresh ∷ []
+  file_before_rows c = rule_line c.rule ∷ read_refusal (read_all s b) ∷ mode_line c ∷ width_line (render_choice c) render_fresh ∷ []
 
   -- 8, in so many rows
   abbrev pub file_rows_line : FileChoice → ℕ → List (Option Refusal)
@@ -68,7 +68,7 @@ module _ (s b : List ℕ) where
   -- ---- what is left
   -- What a run in rows and marks that are lent leaves of them and of the output. Where 9 or 10 refuses, the rows are laid already.
   abbrev pub store_left : FileChoice → List ℕ → List ℕ
-  store_left c store = unless (laid_refusal c (rows_in store)) store (write_front (rows (built s b c).nodes 0) store)
+  store_left c store = unless (laid_refusal c (rows_in store)) store (write_front (rows (laid s b c) 0) store)
 
   abbrev pub marks_left : FileChoice → List ℕ → List ℕ → List ℕ → List ℕ
   marks_left c store marks out = unless (refusal_in c (rows_in store) (length marks) (length out)) marks (write_front (drawn_due s b c).marks marks)

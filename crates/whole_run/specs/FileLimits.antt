@@ -4,13 +4,12 @@ use Rattle.std.specs.Prelude.{◌≡◌, true, List, ℕ, ◌+◌, ◌*◌, ◌�
 use Rattle.image.specs.Limits.{MAX_BODY}
 use Rattle.rows.specs.View.{view_of, nodes_at}
 use Rattle.renderer_rules.specs.Renderer.{render_nodes}
-use Rattle.renderer_rules.specs.Page.{page_of}
-use Rattle.renderer_rules.specs.Check.{wrong_place}
+use Rattle.renderer_rules.specs.Check.{wrong_place_by}
 use Rattle.renderer_rules.specs.Widest.{greatest_column}
-use Rattle.cut_rule.specs.States.{render_fresh}
-use Rattle.whole_run.specs.Parts.{render_image, renderer_of}
+use Rattle.cut_rule.specs.States.{RenderChoice, render_fresh}
+use Rattle.whole_run.specs.Parts.{page, render_image, renderer_of}
 use Rattle.whole_run.specs.File.{file_rows, laid_refusal}
-use Rattle.whole_run.specs.Built.{FileChoice, built, drawn_due}
+use Rattle.whole_run.specs.Built.{FileChoice, laid, drawn_due}
 
 -- the longest image, 1,048,581 bytes: no text of a row is longer
 abbrev pub MAX_IMAGE : ℕ
@@ -24,11 +23,11 @@ FILE_TEXT = file_rows * (MAX_IMAGE + 2)
 abbrev pub FILE_COLUMN : ℕ
 FILE_COLUMN = file_rows * MAX_IMAGE
 
--- So it is of rows that 1, 3 and 11 let pass, whoever laid them, at any width of a line, with any marks.
+-- So it is of rows that 1, 3 and 11 let pass, whoever laid them, at any width of a line, by any rule, with any marks.
 abbrev pub RowsTextLimited : Type 0
 RowsTextLimited =
-    (max : ℕ) (s b store marks : List ℕ) (n : ℕ) → n ≤ file_rows → render_image s b ≡ None → wrong_place s b store 0 n ≡ None
-    → length (render_nodes (page_of max s b) (nodes_at (view_of store) 0 n) true (renderer_of render_fresh.pen marks)).buf ≤ FILE_TEXT
+    (k : RenderChoice) (s b store marks : List ℕ) (n : ℕ) → n ≤ file_rows → render_image k.rule s b ≡ None → wrong_place_by k.rule s b store 0 n ≡ None
+    → length (render_nodes (page k s b) (nodes_at (view_of store) 0 n) true (renderer_of render_fresh.pen marks)).buf ≤ FILE_TEXT
 
 -- of a file that 1 to 7, 12, 15 and 8 let pass
 abbrev pub FileTextLimited : Type 0
@@ -38,8 +37,8 @@ FileTextLimited = (s b : List ℕ) (c : FileChoice) → laid_refusal s b c file_
 abbrev pub AreBytes : List ℕ → Type 0
 AreBytes l = (i : ℕ) → get_or l i 0 ≤ 255
 
--- of a file that 1 to 7, 12, 15 and 8 let pass, at any width of a line, with any marks
+-- of a file that 1 to 7, 12, 15 and 8 let pass, at any width of a line, by any rule, with any marks
 abbrev pub FileColumnLimited : Type 0
 FileColumnLimited =
-    (max : ℕ) (s b marks : List ℕ) (c : FileChoice) → AreBytes b → laid_refusal s b c file_rows ≡ None
-    → greatest_column (page_of max s b) (built s b c).nodes marks ≤ FILE_COLUMN
+    (k : RenderChoice) (s b marks : List ℕ) (c : FileChoice) → AreBytes b → laid_refusal s b c file_rows ≡ None
+    → greatest_column (page k s b) (laid s b c) marks ≤ FILE_COLUMN

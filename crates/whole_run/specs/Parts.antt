@@ -1,6 +1,7 @@
 -- Document 01's rules for one source s and one image b, as the cut rule takes them. Each part is a definition of a lower layer; here they are
 -- only put together.
-use Rattle.std.specs.Prelude.{Bool, true, not, List, [], ◌∷◌, map, ℕ, ◌+◌, ◌-◌, eqb, length, Option, None, Some}
+use Rattle.std.specs.Prelude.{Bool, true, cond, not, List, [], ◌∷◌, map, ℕ, ◌+◌, ◌-◌, eqb, length, Option, None, Some}
+use Rattle.text.specs.Utf8.{ill_formed}
 use Rattle.text.specs.Space.{trim_end}
 use Rattle.image.specs.Read.{Read, got, bad, Image, header, source_fits, read_all, read_refusal}
 use Rattle.ast.specs.Syntax.{Declaration, SyntaxTree}
@@ -15,8 +16,10 @@ use Rattle.comments.specs.Listed.{given}
 use Rattle.layout.specs.Layout.{shebang_rule, declaration}
 use Rattle.layout.specs.Closing.{closing}
 use Rattle.renderer_rules.specs.Renderer.{Page, Renderer, fresh_renderer, render_nodes}
-use Rattle.renderer_rules.specs.Page.{page_of}
-use Rattle.renderer_rules.specs.Check.{wrong_place}
+use Rattle.renderer_rules.specs.Check.{wrong_place_by}
+use Rattle.widths.specs.Rules.{SUPPLIED}
+use Rattle.node_widths.specs.Summed.{laid_nodes}
+use Rattle.node_widths.specs.Measured.{rule_page}
 use Rattle.refusals.specs.Refusals.{Refusal, first, refuse_if}
 use Rattle.rows.specs.Node.{Text}
 use Rattle.renderer_rules.specs.declared.Pen.{Pen}
@@ -30,22 +33,26 @@ abbrev pub accepted_tree : List ℕ → Read Image → SyntaxTree
 accepted_tree b (got i end) = syntax_tree b i.tree
 accepted_tree b (bad n p) = record { shebang = None; declarations = [] }
 
+-- "under the new rule rendering tests 2 as well": what refuses by it, unless widths are supplied
+abbrev pub formed_line : ℕ → List ℕ → Option Refusal
+formed_line rule s = cond (eqb rule SUPPLIED) None (ill_formed s)
+
 -- "rendering 1, 3 by the same tests"
-abbrev pub render_image : List ℕ → List ℕ → Option Refusal
-render_image s b = first (refuse_if (not (source_fits s)) 1 0 ∷ refuse_if (not (header b)) 3 0 ∷ [])
+abbrev pub render_image : ℕ → List ℕ → List ℕ → Option Refusal
+render_image rule s b = first (refuse_if (not (source_fits s)) 1 0 ∷ formed_line rule s ∷ refuse_if (not (header b)) 3 0 ∷ [])
 
 -- the comment list as `Comment` rows have it: of the source, trimmed at the end
 abbrev pub listed : List ℕ → List ℕ → List Text
 listed s b = map (λ c. record { origin = 0; start = c.start; size = trim_end s c.start c.end - c.start }) (comments_of b)
 
 -- ---- layout
--- a step of the layout rules, from a cursor: its nodes as rows, the first of them the cursor's next row
-abbrev pub act_piece : Act → Cursor → Piece
-act_piece a c =
+-- a step of the layout rules, from a cursor: its nodes, with the sums of the rule in each `Str`, as rows, the first of them the cursor's next row
+abbrev pub act_piece : ℕ → List ℕ → List ℕ → Act → Cursor → Piece
+act_piece rule s b a c =
     let o = a (record { number = c.number; pos = c.position; placed = c.placed }) in
     record {
       cursor = record { row = c.row + sizes o.nodes; number = c.number + o.taken; placed = o.placed; position = o.pos };
-      rows = rows o.nodes c.row;
+      rows = rows (laid_nodes rule s b o.nodes) c.row;
     }
 
 -- a declaration; `first` of `fmt_parsed` is that the next declaration is 0
@@ -65,9 +72,9 @@ renderer_of z marks = fresh_renderer z marks
 abbrev pub drawn_by : Renderer → Drawn
 drawn_by r = record { pen = r.pen; marks = r.marks; text = r.buf }
 
--- "The rules are the Rust's with that number": the width is `max`
+-- "The rules are the Rust's with that number": the width is `max`; `Ascii` texts measure by the rule
 abbrev pub page : RenderChoice → List ℕ → List ℕ → Page
-page c s b = page_of c.width s b
+page c s b = rule_page c.width c.rule s b
 
 -- the rows from the state's next row up to the stop; what is read counts as top rows, so that `wrap` is true
 abbrev pub rendering : List ℕ → List ℕ → RenderState → RenderTo RenderChoice → List ℕ → List ℕ → Renderer
@@ -90,11 +97,11 @@ parts_by r s b =
       declarations = length tree.declarations;
       comments = length (comments_of b);
       layout_image = read_refusal r;
-      render_image_of = λ c. render_image s b;
-      shebang = λ k. act_piece (shebang_rule (given s b) tree.shebang);
-      declaration = λ k n. act_piece (declaration_act s b n (nth tree.declarations n));
-      final = λ k. act_piece (closing (given s b) tree (keeps_waiting k.mode));
-      wrong_row = λ c. wrong_place s b;
+      render_image_of = λ c. render_image c.rule s b;
+      shebang = λ k. act_piece k.rule s b (shebang_rule (given s b) tree.shebang);
+      declaration = λ k n. act_piece k.rule s b (declaration_act s b n (nth tree.declarations n));
+      final = λ k. act_piece k.rule s b (closing (given s b) tree (keeps_waiting k.mode));
+      wrong_row = λ c. wrong_place_by c.rule s b;
       needed = λ store i stop. marks_needed (stop - i) store i;
       draw = drawn s b;
     }

@@ -1,8 +1,9 @@
 -- "80 is the reference", and "equality with the Rust in the old" mode: with these all is as it was before a caller could choose. 12 and 15 refuse
 -- no file, what is built is what `fmt_parsed` builds, and `Renderer` has the Rust's `max`.
 -- The definitions here have no choice; proofs/Reference.antt proves that those with a choice are these at 80 and in the old mode.
-use Rattle.std.specs.Prelude.{◌⊎◌, ◌≡◌, true, List, [], ◌∷◌, ℕ, ◌-◌, max, ltb, length, take, replicate, Option, None}
-use Rattle.image.specs.Read.{read_all, read_refusal}
+use Rattle.std.specs.Prelude.{◌⊎◌, ◌≡◌, Bool, true, not, List, [], ◌∷◌, ◌++◌, ℕ, ◌-◌, max, ltb, length, take, replicate, Option, None}
+use Rattle.widths.specs.Rules.{SUPPLIED}
+use Rattle.image.specs.Read.{header, source_fits, read_all, read_refusal}
 use Rattle.rows.specs.View.{view_of, nodes_at}
 use Rattle.rows.specs.Rows.{sizes, rows}
 use Rattle.acts.specs.Act.{Out}
@@ -20,9 +21,9 @@ use Rattle.cut_rule.specs.Limits.{REFERENCE_WIDTH}
 use Rattle.cut_rule.specs.Rules.{RenderTo, RenderArgs}
 use Rattle.cut_rule.specs.Run.{write_front}
 use Rattle.cut_rule.specs.States.{RenderChoice, RenderState, render_fresh}
-use Rattle.cut_rule.specs.Tests.{render_tests}
-use Rattle.cut_rule.specs.Parts.{Drawn, with_cleared, width_line, render_table, rendered_of}
-use Rattle.whole_run.specs.Parts.{render_image, renderer_of, drawn_by, parts_of}
+use Rattle.cut_rule.specs.Tests.{rows_in, row_tests, pen_tests, mark_tests}
+use Rattle.cut_rule.specs.Parts.{Drawn, with_cleared, rule_line, width_line, render_table, rendered_of}
+use Rattle.whole_run.specs.Parts.{renderer_of, drawn_by, parts_of}
 use Rattle.whole_run.specs.Built.{reference_choice, render_choice, tree, built}
 use Rattle.whole_run.specs.File.{file_rows, file_marks, mode_line, file_refusal, FileResult, file_answer, file_output}
 
@@ -71,6 +72,7 @@ module _ (s b : List ℕ) where
   pub record FileAsBefore : Type 0 where
     pub not_12 : mode_line reference_choice ≡ None
     pub not_15 : width_line (render_choice reference_choice) render_fresh ≡ None
+    pub not_20 : rule_line reference_choice.rule ≡ None
     pub same_built : built s b reference_choice ≡ built_then
     pub refusal : (room : ℕ) → file_refusal s b reference_choice room ≡ refusal_then room
     pub answer : (room : ℕ) → file_answer s b reference_choice room ≡ answer_then room
@@ -84,20 +86,28 @@ module _ (s b : List ℕ) where
       (render_nodes (page_of 80 s b) (nodes_at (view_of store) z.row stop) true
       (renderer_of z.pen (with_cleared (parts_of s b) marks (marks_needed (stop - z.row) store z.row))))
 
+  -- 1 and 3
+  abbrev pub image_then : Option Refusal
+  image_then = first (refuse_if (not (source_fits s)) 1 0 ∷ refuse_if (not (header b)) 3 0 ∷ [])
+
+  -- 12, of the next row, the pen and the marks
+  abbrev pub tests_then : ℕ → RenderState → List ℕ → List ℕ → List Bool
+  tests_then stop z store marks = row_tests (rows_in store) stop z.row ++ (pen_tests z.pen ++ mark_tests marks z.in_use)
+
   -- 1, 3, 11, 12, 9, 10
   abbrev pub call_refusal : RenderArgs RenderChoice → RenderState → List ℕ → List ℕ → Option Refusal
   call_refusal q z store marks =
       let needed = marks_needed (q.to.stop - z.row) store z.row in
       let bytes = length (call_drawn z (take z.in_use marks) store q.to.stop).text in
       first
-      (render_image s b
+      (image_then
       ∷ refuse_at (wrong_place s b store z.row q.to.stop) 11
-      ∷ refuse_if (any (render_tests q z store marks)) 12 0
+      ∷ refuse_if (any (tests_then q.to.stop z store marks)) 12 0
       ∷ refuse_if (ltb (length marks) needed) 9 needed
       ∷ refuse_if (ltb q.room bytes) 10 bytes
       ∷ [])
 
-  -- of a call that chooses 80, from a state that carries none yet or 80
+  -- of a call that chooses 80 and supplied widths, from a state that carries none yet or these
   pub record CallAsBefore (stop room : ℕ) (z : RenderState) (store marks : List ℕ) : Type 0 where
     pub refusal :
         (let q : RenderArgs RenderChoice = record { to = at_reference stop; room = room } in
@@ -108,6 +118,7 @@ module _ (s b : List ℕ) where
         in_use = max z.in_use (marks_needed (stop - z.row) store z.row);
         row = stop;
         width = 80;
+        rule = SUPPLIED;
       };
       marks = (call_drawn z marks store stop).marks;
       text = (call_drawn z marks store stop).text;
@@ -117,4 +128,4 @@ abbrev pub ReferenceHolds : Type 0
 ReferenceHolds =
     (s b : List ℕ)
     → FileAsBefore s b
-    × ((stop room : ℕ) (z : RenderState) (store marks : List ℕ) → (z.width ≡ 0) ⊎ (z.width ≡ REFERENCE_WIDTH) → CallAsBefore s b stop room z store marks)
+    × ((stop room : ℕ) (z : RenderState) (store marks : List ℕ) → (z.width ≡ 0) ⊎ (z.width ≡ REFERENCE_WIDTH) → (z.rule ≡ 0) ⊎ (z.rule ≡ SUPPLIED) → CallAsBefore s b stop room z store marks)

@@ -3,7 +3,7 @@
 use std::{ffi::OsString, path::PathBuf};
 
 use rrufthim::{
-    Comments, Options,
+    Comments, Options, Widths,
     limits::{MAX_LINE_WIDTH, MIN_LINE_WIDTH},
 };
 
@@ -85,6 +85,9 @@ impl Order {
             Some("--force") => self.force = true,
             Some("--as-roto") => self.options.comments = Comments::AsRoto,
             Some("--width") => self.options.width = width(words.next())?,
+            Some("--unicode") => {
+                self.options.widths = edition(words.next())?;
+            }
             Some("--help") => return Err(Stop::Help),
             _ => {
                 let option = shown(option.as_ref());
@@ -103,13 +106,25 @@ fn width(word: Option<OsString>) -> Result<usize, Stop> {
         .filter(|width| widths.contains(width))
         .ok_or_else(|| {
             let (least, most) = (widths.start(), widths.end());
-            let given = match word {
-                Some(word) => format!("not {}", shown(word.as_ref())),
-                None => "and none follows".into(),
-            };
-            let why = format!(
-                "--width takes a number from {least} to {most}, {given}"
-            );
-            Stop::Fault(why)
+            let taken =
+                format!("--width takes a number from {least} to {most}");
+            other(&taken, word)
         })
+}
+
+fn edition(word: Option<OsString>) -> Result<Widths, Stop> {
+    match word.as_ref().and_then(|word| word.to_str()) {
+        Some("15.1") => Ok(Widths::Unicode15_1),
+        Some("16.0") => Ok(Widths::Unicode16_0),
+        _ => Err(other("--unicode takes an edition, 15.1 or 16.0", word)),
+    }
+}
+
+/// Another word than those that an option takes.
+fn other(taken: &str, word: Option<OsString>) -> Stop {
+    let given = match word {
+        Some(word) => format!("not {}", shown(word.as_ref())),
+        None => "and none follows".into(),
+    };
+    Stop::Fault(format!("{taken}, {given}"))
 }

@@ -30,9 +30,9 @@ const HOOK: Program = Program {
     name: "hook",
     counted: "frame",
     usage: "\
-usage: hook [--check] [--force] [--width N] [--as-roto] [--] PATH...",
+usage: hook [--check] [--force] [--width N] [--unicode V] [--as-roto] [--] PATH...",
     manual: MANUAL,
-    takes: &["--check", "--force", "--width", "--as-roto"],
+    takes: &["--check", "--force", "--width", "--unicode", "--as-roto"],
     fault_in: |paths| {
         let none = paths.is_empty();
         none.then(|| "no path is given".into())
@@ -48,6 +48,8 @@ the frame was made: it is named, and left alone.
   --check     writes nothing, and says which files would change
   --force     overwrites what was changed since its frame was made
   --width N   lines of N columns, from 40 to 200, in place of 80
+  --unicode V columns by Unicode V, 15.1 or 16.0, in place of what the frames
+              say of names and of the bytes of literals
   --as-roto   as Roto's own formatter does it: comments after the last
               declaration are left out
   --help      says this

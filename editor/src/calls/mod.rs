@@ -37,7 +37,7 @@ use crate::{
     ast::Span,
     file::File,
     linked::{self, numbers, sizes},
-    options::Options,
+    options::{Options, Widths},
     refusal::Refusal,
 };
 
@@ -72,7 +72,8 @@ pub fn check(file: File<'_>) -> Result<Accepted, Refusal> {
 }
 
 /// Lays out the declarations up to the one to stop before, and closes if it
-/// is told to. All calls of a run choose the same of the comments.
+/// is told to. All calls of a run choose the same of comments and widths: by
+/// an edition of Unicode names get their columns here.
 ///
 /// # Errors
 ///
@@ -86,8 +87,9 @@ pub fn layout(
 ) -> Result<Laid, Refusal> {
     let from = numbers(state.numbers());
     let mode = options.comments.mode();
-    let args = numbers([args.stop, args.close.into(), mode]);
-    let mut out = [0; 10];
+    let rule = options.widths.rule();
+    let args = numbers([args.stop, args.close.into(), mode, rule]);
+    let mut out = [0; 11];
     linked::layout(file.source, file.image, store, &from, &args, &mut out);
     let [number, comments_left, state @ ..] = sizes(out);
     refused(number, comments_left)?;
@@ -99,12 +101,14 @@ pub fn layout(
 
 /// Renders the rows up to the one to stop before. The store is lent for the
 /// time of the call and is the same after it. All calls of a run choose the
-/// same width.
+/// same width and widths: literals are measured here. Names are as wide as
+/// layout wrote, whatever is chosen here, so choose the same there.
 ///
 /// # Errors
 ///
-/// Refusals 1, 3, 11, 12, 15, 9, 10. A refused call leaves marks and output
-/// as they were.
+/// Refusals 1, 3, 11, 12, 15, 9, 10; by an edition of Unicode also 2, before
+/// 3, and 11 for a row's text that isn't UTF-8 or cuts a character. A refused
+/// call leaves marks and output as they were.
 pub fn render(
     file: File<'_>,
     store: &mut [u32],
@@ -116,8 +120,9 @@ pub fn render(
 ) -> Result<Written, Refusal> {
     let File { source, image } = file;
     let from = numbers(state.numbers());
-    let args = numbers([args.stop, options.width]);
-    let mut out = [0; 8];
+    let rule = options.widths.rule();
+    let args = numbers([args.stop, options.width, rule]);
+    let mut out = [0; 9];
     linked::render(
         source, image, store, marks, output, &from, &args, &mut out,
     );
@@ -196,9 +201,37 @@ pub fn newlines(source: &[u8], range: Span) -> Newlines {
     Newlines { count, place }
 }
 
+/// How many columns a text takes by a rule: what lines are measured by, for
+/// who shows it or writes images with such widths.
+///
+/// By [`Widths::Supplied`] it is what the caller says, `supplied`: Roto's own
+/// formatter has no other measure. By an edition of Unicode it is the sum
+/// over the characters, for a text that isn't UTF-8 over those before its
+/// first bad sequence.
+///
+/// ```
+/// use rrufthim::{Widths, calls::columns};
+///
+/// let town = "東京";
+/// let in_bytes = columns(town.as_bytes(), Widths::Supplied, town.len());
+/// assert_eq!(in_bytes, 6);
+/// assert_eq!(columns(town.as_bytes(), Widths::Unicode16_0, 0), 4);
+/// // An accent that is a character of its own takes none.
+/// assert_eq!(columns(b"e\xCC\x81", Widths::Unicode16_0, 0), 1);
+/// ```
+pub fn columns(text: &[u8], widths: Widths, supplied: usize) -> usize {
+    let [rule, supplied] = numbers([widths.rule(), supplied]);
+    let mut out = [0; 2];
+    linked::columns(text, rule, supplied, &mut out);
+    // A rule that has a name is never refused.
+    let [_, columns] = sizes(out);
+    columns
+}
+
 /// What is chosen for a whole file.
-fn choice(options: &Options) -> [u64; 2] {
-    numbers([options.width, options.comments.mode()])
+fn choice(options: &Options) -> [u64; 3] {
+    let (mode, rule) = (options.comments.mode(), options.widths.rule());
+    numbers([options.width, mode, rule])
 }
 
 /// An answer starts with 0, or with a refusal's number and place.

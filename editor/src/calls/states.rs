@@ -27,10 +27,16 @@ pub struct LayoutState {
     /// [`Comments::AsRoto`](crate::Comments::AsRoto), 1 for
     /// [`Comments::All`](crate::Comments::All); 0 if there was no call yet.
     pub mode: usize,
+    /// What they chose for the columns of texts: 1 for
+    /// [`Widths::Supplied`](crate::Widths::Supplied), 2 for
+    /// [`Unicode15_1`](crate::Widths::Unicode15_1), 3 for
+    /// [`Unicode16_0`](crate::Widths::Unicode16_0); 0 if there was no call
+    /// yet.
+    pub rule: usize,
 }
 
 impl LayoutState {
-    pub(super) fn numbers(&self) -> [usize; 8] {
+    pub(super) fn numbers(&self) -> [usize; 9] {
         [
             self.begun.into(),
             self.closed.into(),
@@ -40,12 +46,13 @@ impl LayoutState {
             self.comments_placed,
             self.position,
             self.mode,
+            self.rule,
         ]
     }
 
-    pub(super) fn from_numbers(numbers: [usize; 8]) -> Self {
+    pub(super) fn from_numbers(numbers: [usize; 9]) -> Self {
         let [begun, closed, declaration, row, at @ ..] = numbers;
-        let [number, placed, position, mode] = at;
+        let [number, placed, position, mode, rule] = at;
         LayoutState {
             begun: begun != 0,
             closed: closed != 0,
@@ -55,6 +62,7 @@ impl LayoutState {
             comments_placed: placed,
             position,
             mode,
+            rule,
         }
     }
 }
@@ -75,10 +83,13 @@ pub struct RenderState {
     pub next_row: usize,
     /// The width that the calls so far chose, 0 if there was none yet.
     pub width: usize,
+    /// What they chose for the columns of texts, by the numbers of
+    /// [`LayoutState::rule`]; 0 if there was none yet.
+    pub rule: usize,
 }
 
 impl RenderState {
-    pub(super) fn numbers(&self) -> [usize; 6] {
+    pub(super) fn numbers(&self) -> [usize; 7] {
         [
             self.indent,
             self.next_indent,
@@ -86,12 +97,13 @@ impl RenderState {
             self.marks_in_use,
             self.next_row,
             self.width,
+            self.rule,
         ]
     }
 
-    pub(super) fn from_numbers(numbers: [usize; 6]) -> Self {
-        let [indent, next_indent, column, marks_in_use, next_row, width] =
-            numbers;
+    pub(super) fn from_numbers(numbers: [usize; 7]) -> Self {
+        let [indent, next_indent, column, at @ ..] = numbers;
+        let [marks_in_use, next_row, width, rule] = at;
         RenderState {
             indent,
             next_indent,
@@ -99,6 +111,7 @@ impl RenderState {
             marks_in_use,
             next_row,
             width,
+            rule,
         }
     }
 }

@@ -4,7 +4,7 @@ use rrufthim::{ast::*, encode, limits::MAX_BATCH};
 
 use super::{
     folder::{Folder, LINE, Said, WIDE},
-    support::{SOURCE, constants, tariff_image},
+    support::{SOURCE, constants, list, list_tree, tariff_image, towns},
 };
 
 /// The status and the last line.
@@ -166,4 +166,22 @@ fn widths_are_chosen() {
         let text = folder.text("list.roto").expect("written");
         assert_eq!(text.lines().count(), lines, "{text}");
     }
+}
+
+/// A list of Japan's towns that fits a line, by an edition of Unicode.
+#[test]
+fn an_edition_is_chosen() {
+    let folder = Folder::new("unicode");
+    let source = list(&towns(0));
+    let image = encode(&list_tree(&source), &[]).expect("an image");
+    folder.put_frame("list.frame", &source, &image);
+    for edition in ["15.1", "16.0"] {
+        folder.put("list.roto", source.as_bytes());
+        let said = folder.hook(&["--unicode", edition]);
+        assert_eq!(ends(&said), (0, "1 frame: 0 changed"));
+    }
+    let said = folder.hook(&[]);
+    assert_eq!(ends(&said), (0, "1 frame: 1 changed"));
+    let wrapped = folder.text("list.roto").expect("written");
+    assert_eq!(wrapped.lines().count(), 8, "{wrapped}");
 }

@@ -11,13 +11,15 @@ use super::{
     folder::{Folder, LINE, WIDE, hook},
 };
 
-const USAGE: &str =
-    "usage: hook [--check] [--force] [--width N] [--as-roto] [--] PATH...";
+const USAGE: &str = "usage: hook [--check] [--force] [--width N] \
+    [--unicode V] [--as-roto] [--] PATH...";
 
 #[test]
 fn what_is_not_understood_is_said_once() {
     let width = "--width takes a number from 40 to 200, ";
-    let faults: [(&[&str], &str); 11] = [
+    let edition = "--unicode takes an edition, 15.1 or 16.0, ";
+    let none = format!("{edition}and none follows");
+    let faults: [(&[&str], &str); 14] = [
         (&[], "no path is given"),
         (&["--check"], "no path is given"),
         (&["--"], "no path is given"),
@@ -29,6 +31,9 @@ fn what_is_not_understood_is_said_once() {
         (&["--width", "39", "x.frame"], &format!("{width}not 39")),
         (&["--width", "201", "x.frame"], &format!("{width}not 201")),
         (&["--width", "-80", "x.frame"], &format!("{width}not -80")),
+        (&["x.frame", "--unicode"], &none),
+        (&["--unicode", "16", "x.frame"], &format!("{edition}not 16")),
+        (&["--unicode", "x.frame"], &format!("{edition}not x.frame")),
     ];
     for (words, why) in faults {
         let said = hook(words.iter().map(OsString::from));
@@ -61,7 +66,8 @@ fn help_is_an_answer() {
     let said = folder.hook(&["--help"]);
     assert_eq!((said.status, said.err.len()), (0, 0));
     assert_eq!(said.out[0], USAGE);
-    for option in ["--check", "--force", "--width N", "--as-roto", "--help"] {
+    let options = ["--check", "--force", "--width N", "--unicode V"];
+    for option in options.into_iter().chain(["--as-roto", "--help"]) {
         let starts =
             |line: &String| line.starts_with(&format!("  {option} "));
         assert!(said.out.iter().any(starts), "{option}");

@@ -70,6 +70,61 @@ fn named(source: &str, span: &Span) -> Meta<Identifier> {
     Meta::new(source[span.clone()].into(), span.clone())
 }
 
+/// `const 地域: List[String] = ["東京都", …];`
+pub fn list(towns: &[String]) -> String {
+    format!(
+        "const 地域: List[String] = [\"{}\"];\n",
+        towns.join("\", \"")
+    )
+}
+
+/// Six towns, the last with letters behind it.
+pub fn towns(letters: usize) -> Vec<String> {
+    let names = ["東京", "大阪", "名古屋", "札幌", "福岡", "仙台"];
+    let mut towns: Vec<_> = names.map(str::to_owned).into();
+    towns[5] += &"x".repeat(letters);
+    towns
+}
+
+/// The tree of such a line.
+pub fn list_tree(source: &str) -> SyntaxTree {
+    let place = |word: &str| {
+        let at = source.find(word).expect("the word");
+        at..at + word.len()
+    };
+    let open = source.find("= [").expect("a list") + 3;
+    let close = source.find("];").expect("its end");
+    let mut at = open;
+    let literals = source[open..close].split(", ").map(|literal| {
+        let span = at..at + literal.len();
+        at = span.end + 2;
+        let text = Literal::String(literal.trim_matches('"').into());
+        Meta::new(Expr::Literal(Meta::new(text, span.clone())), span)
+    });
+    let values = Expr::List(literals.collect());
+    let element = place("String");
+    let element = Meta::new(
+        TypeExpr::Path(path(source, &element), None),
+        element.clone(),
+    );
+    let name = place("地域");
+    let (of, ty) = (place("[String]"), place("List[String]"));
+    let parameters = Some(Meta::new(vec![element], of));
+    let ty = Meta::new(
+        TypeExpr::Path(path(source, &place("List")), parameters),
+        ty,
+    );
+    let declaration = Declaration::Const(ConstantDeclaration {
+        ident: Meta::new(source[name.clone()].into(), name),
+        ty,
+        expr: Meta::new(values, open - 1..close + 1),
+    });
+    SyntaxTree {
+        shebang: None,
+        declarations: vec![declaration],
+    }
+}
+
 /// What a whole file takes, by whatever calls.
 #[derive(Clone, Copy, Debug, PartialEq, Eq)]
 pub struct Whole {

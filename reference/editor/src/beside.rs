@@ -6,6 +6,7 @@ use judge::{
     mode,
     program::{self, Widths},
     reader::{self, Accepted},
+    rule::{UNICODE_15_1, UNICODE_16_0},
     tree,
 };
 use rrufthim::{
@@ -16,12 +17,16 @@ use rrufthim::{
 use crate::{File, as_written, convert, decode, plug};
 
 /// What the original makes of a file, and what it makes of it when it closes
-/// in the new mode of request 4: the crate's default.
+/// in the new mode of request 4, the crate's default; the latter also by an
+/// edition of Unicode (request 8).
 pub struct Due {
     pub image: Vec<u8>,
     pub text: String,
     pub comments_left: Vec<Span>,
     pub kept: String,
+    pub measured: String,
+    /// The default, but for that edition.
+    pub by_edition: Options,
 }
 
 impl Due {
@@ -29,16 +34,27 @@ impl Due {
     pub fn of(frame: Frame, accepted: &Accepted) -> Self {
         let run = program::format(frame, Widths::Supplied).expect("accepted");
         let placed = accepted.comments.len() - run.comments_left;
-        let choice = Choice {
-            mode: mode::NEW,
-            ..Choice::REFERENCE
+        let kept = |rule| {
+            let choice = Choice {
+                mode: mode::NEW,
+                rule,
+                ..Choice::REFERENCE
+            };
+            let kept = program::format_as(frame, Widths::Supplied, choice);
+            kept.expect("accepted").text
         };
-        let kept = program::format_as(frame, Widths::Supplied, choice);
+        // The one for some files, the other for the others.
+        let (edition, rule) = match frame.image.len() % 2 {
+            0 => (rrufthim::Widths::Unicode15_1, UNICODE_15_1),
+            _ => (rrufthim::Widths::Unicode16_0, UNICODE_16_0),
+        };
         Due {
             image: as_written(frame.image, &accepted.tree),
             text: run.text,
             comments_left: accepted.comments[placed..].to_vec(),
-            kept: kept.expect("accepted").text,
+            kept: kept(Choice::REFERENCE.rule),
+            measured: kept(rule),
+            by_edition: Options::default().with_widths(edition),
         }
     }
 }
@@ -74,12 +90,18 @@ pub fn of_the_crate(file: &File, due: &Due) -> Vec<&'static str> {
     let roto = formatter.format_written(source, write).expect("accepted");
     let kept = fmt_written(source, &Options::default(), write);
     let kept = kept.expect("accepted");
+    // By other widths than the image's, which aren't looked at.
+    let measured = fmt_written(source, &due.by_edition, |out| {
+        write_tree(out, tree, &extras.comments, |_| 7)
+    });
+    let measured = measured.expect("accepted");
     named([
         ("image", image.as_ref() == Ok(&due.image)),
         ("text", roto.text == due.text),
         ("comments left", roto.comments_left == due.comments_left),
         ("text with all comments", kept.text == due.kept),
         ("no comment left", kept.comments_left.is_empty()),
+        ("text by an edition", measured.text == due.measured),
     ])
 }
 
@@ -121,6 +143,8 @@ pub fn of_the_plug(
     let roto = roto.expect("accepted");
     let kept = plug::fmt_parsed(ast, source, spans, extras);
     let kept = kept.expect("accepted");
+    let measured = fmt_written(source, &due.by_edition, write);
+    let measured = measured.expect("accepted");
     named([
         ("the plug's image", image == due.image),
         ("the plug's text", roto.text == due.text),
@@ -130,6 +154,10 @@ pub fn of_the_plug(
         ),
         ("the plug's text with all comments", kept.text == due.kept),
         ("no comment left by the plug", kept.comments_left.is_empty()),
+        (
+            "the plug's text by an edition",
+            measured.text == due.measured,
+        ),
     ])
 }
 

@@ -9,6 +9,7 @@ use judge::{
     mode::NEW,
     program::{self, Widths},
     reader,
+    rule::{LEGAL, SUPPLIED, UNICODE_15_1, UNICODE_16_0},
 };
 use rrufthim::{
     Batch, Cause, Comments, File, FormatError, Formatted, Options, Span,
@@ -46,8 +47,14 @@ fn answered(answer: Result<Formatted, FormatError>) -> Answer {
     }
 }
 
-/// What the crate can choose of it: no mode but the two.
+/// What the crate can choose of it: no mode but the two, and no rule but the
+/// three.
 fn options(choice: Choice) -> Options {
+    let widths = match choice.rule {
+        UNICODE_15_1 => rrufthim::Widths::Unicode15_1,
+        UNICODE_16_0 => rrufthim::Widths::Unicode16_0,
+        _ => rrufthim::Widths::Supplied,
+    };
     let comments = match choice.mode {
         NEW => Comments::All,
         _ => Comments::AsRoto,
@@ -55,21 +62,28 @@ fn options(choice: Choice) -> Options {
     Options::default()
         .with_width(choice.width)
         .with_comments(comments)
+        .with_widths(widths)
 }
 
 #[test]
 fn lists_of_files() {
     let [mut accepted, mut refused, mut large] = [0, 0, 0];
+    let mut by_edition = 0;
     for index in 0..BATCHES {
         let case = generate::batch_case(SEED, index);
         let Ok(files) = split(&case.buffer) else {
             continue;
         };
-        let mode = case.choice.mode.min(NEW);
+        let Choice { width, mode, rule } = case.choice;
         let choice = Choice {
-            mode,
-            ..case.choice
+            width,
+            mode: mode.min(NEW),
+            rule: match LEGAL.contains(&rule) {
+                true => rule,
+                false => SUPPLIED,
+            },
         };
+        by_edition += usize::from(choice.rule != SUPPLIED);
         let mut batch = Batch::new().with_options(options(choice));
         let given = files.iter();
         let given = given.map(|file| File::new(file.source, file.image));
@@ -90,4 +104,5 @@ fn lists_of_files() {
         "{accepted} and {refused}"
     );
     assert!(large > 10, "{large}");
+    assert!(by_edition > 50, "{by_edition}");
 }

@@ -81,6 +81,9 @@ fn differences_are_found() {
         "the plug's text with all comments",
     ];
     assert_eq!(kept, texts);
+    let measured = found(|due| due.measured.push(' '));
+    let texts = ["text by an edition", "the plug's text by an edition"];
+    assert_eq!(measured, texts);
 }
 
 #[test]
@@ -101,6 +104,17 @@ fn feet() {
     for index in 0..FRAMES {
         assert!(compare(&generate::foot_frame(SEED, index)), "{index}");
     }
+}
+
+/// Files with characters of two columns, or of none.
+#[test]
+fn broad() {
+    let accepted = (0..FRAMES).filter(|index| {
+        let (bytes, _) = generate::broad_frame(SEED, *index);
+        compare(&bytes)
+    });
+    let accepted = accepted.count() as u64;
+    assert!(accepted > FRAMES / 2, "{accepted}");
 }
 
 /// Damaged frames that the reader accepts after all.

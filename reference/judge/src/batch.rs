@@ -76,7 +76,7 @@ fn first(bytes: &[u8]) -> Result<(Frame<'_>, &[u8]), Cause> {
     Ok((Frame { source, image }, rest))
 }
 
-/// A file's text, or what refuses it: 1 to 7, 12, 15, 8, 9.
+/// A file's text, or what refuses it: 20, 1 to 7, 12, 15, 8, 9.
 pub fn single(file: Frame, choice: Choice) -> Result<String, Refusal> {
     let run = program::format_as(file, Widths::Supplied, choice)?;
     program::has_rows(&run).map(|()| run.text)

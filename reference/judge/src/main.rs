@@ -25,6 +25,7 @@ usage: judge run [--true-widths] < frame      what the program must write
        judge call-answers SEED COUNT          lists of calls with their answers
        judge size-answers                     the same for all sizes
        judge render-answers                   the same for rows made for it
+       judge rule-answers                     the same for rules of widths
        judge stored-frames                    a fixed set of frames, answered
        judge stored-calls                     a fixed set of lists, answered
        judge stored-table                     what the fixed sets reach
@@ -99,6 +100,10 @@ fn command(words: &[&str]) -> Result<Pieces, String> {
         }
         ["render-answers"] => {
             let cases = generate::rendering_cases().into_iter();
+            Box::new(cases.map(|case| answers::calls::answered(&case)))
+        }
+        ["rule-answers"] => {
+            let cases = generate::rule_cases().into_iter();
             Box::new(cases.map(|case| answers::calls::answered(&case)))
         }
         ["stored-frames"] => {

@@ -6,7 +6,7 @@ use crate::{
     frame::{self, Frame},
     reader,
     refusal::{Refusal, refusal},
-    rows,
+    rows, rule,
     tree::Input,
 };
 
@@ -28,12 +28,13 @@ pub fn format(frame: Frame, widths: Widths) -> Result<Run, Refusal> {
     format_as(frame, widths, Choice::REFERENCE)
 }
 
-/// The same by its caller's choice: the reader's refusals, then 12 and 15.
+/// The same by its caller's choice: 20, the reader's refusals, 12 and 15.
 pub fn format_as(
     frame: Frame,
     widths: Widths,
     choice: Choice,
 ) -> Result<Run, Refusal> {
+    rule::check(choice.rule)?;
     let accepted = reader::read(frame.source, frame.image)?;
     choice.check()?;
     let input = Input::new(&accepted, frame.image);

@@ -81,8 +81,7 @@ pub fn read_with<'i>(
     ranges: Ranges,
 ) -> Result<Accepted<'i>, Refusal> {
     check_source_length(source)?;
-    let source = std::str::from_utf8(source)
-        .map_err(|bad| refusal(2, bad.valid_up_to()))?;
+    let source = check_encoding(source)?;
     check_header(image)?;
     let comments = read_comments(source, image, ranges)?;
     let mut reader = Reader {
@@ -108,6 +107,11 @@ pub fn check_source_length(source: &[u8]) -> Result<(), Refusal> {
         return Err(refusal(1, 0));
     }
     Ok(())
+}
+
+/// Refusal 2.
+pub fn check_encoding(source: &[u8]) -> Result<&str, Refusal> {
+    std::str::from_utf8(source).map_err(|bad| refusal(2, bad.valid_up_to()))
 }
 
 /// Refusal 3.

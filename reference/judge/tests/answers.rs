@@ -141,15 +141,23 @@ fn skip_world(input: &mut Input) -> usize {
     cells
 }
 
-const LAYOUT_STATE: usize = 2 + 6 * 4;
-const RENDER_STATE: usize = 2 * 4 + 8 + 3 * 4;
+const LAYOUT_STATE: usize = 2 + 7 * 4;
+const RENDER_STATE: usize = 2 * 4 + 8 + 4 * 4;
+/// Stop, argument and choice, then the rule.
+const ARGUMENTS: usize = 3 * 4 + 8;
 
 #[test]
 fn call_answers_are_laid_out_as_described() {
     let random = (0..100).flat_map(|index| {
-        [generate::call_case, generate::foot_case].map(|make| make(3, index))
+        [
+            generate::call_case,
+            generate::foot_case,
+            generate::rule_case,
+        ]
+        .map(|make| make(3, index))
     });
-    for case in random.chain(generate::rendering_cases()) {
+    let fixed = [generate::rendering_cases(), generate::rule_cases()];
+    for case in random.chain(fixed.into_iter().flatten()) {
         let answered = answers::calls::answered(&case);
         let mut input = Input(&answered);
         for given in [&case.source, &case.image] {
@@ -163,7 +171,7 @@ fn call_answers_are_laid_out_as_described() {
         let mut written = 0;
         for _ in 0..calls {
             let kind = input.number(1);
-            input.bytes(12);
+            input.bytes(ARGUMENTS);
             let refusal = input.number(1);
             input.bytes(8);
             match (refusal, kind) {
@@ -217,8 +225,8 @@ fn batch_answers_are_laid_out_as_described() {
     while !input.0.is_empty() {
         let length = input.number(4);
         let buffer = input.bytes(length);
-        let [width, mode] = [(); 2].map(|()| input.number(8));
-        let choice = Choice { width, mode };
+        let [width, mode, rule] = [(); 3].map(|()| input.number(8));
+        let choice = Choice { width, mode, rule };
         let number = input.number(2);
         let place = input.number(4);
         if number != 0 {

@@ -12,6 +12,7 @@ use judge::{
     image::{self, node},
     program::{self, Widths},
     refusal::{Refusal, refusal},
+    rule, script,
 };
 
 /// What every batch here has room in.
@@ -28,7 +29,11 @@ fn buffer(names: &[&str]) -> Vec<u8> {
 }
 
 fn answer(buffer: &[u8], width: usize, mode: usize) -> Batched {
-    let choice = Choice { width, mode };
+    let choice = Choice {
+        width,
+        mode,
+        ..Choice::REFERENCE
+    };
     batch(buffer, choice, AMPLE, AMPLE).expect("room")
 }
 
@@ -92,6 +97,47 @@ fn a_bad_choice_is_in_each_row() {
     // 12 before 15.
     assert_eq!(rows(&["const"], 39, 2), [12, 0, 0]);
     assert_eq!(rows(&[], 39, 2), []);
+}
+
+/// 20 in each row, before the file's own refusals and those of the choice.
+#[test]
+fn a_bad_rule_is_in_each_row() {
+    let frames = buffer(&["const", "version-2", "nothing"]);
+    for rule in [0, 4, 1 << 32, usize::MAX, (1 << 32) + 1] {
+        for (width, mode) in [(80, 0), (39, 2)] {
+            let choice = Choice { width, mode, rule };
+            let got = batch(&frames, choice, AMPLE, AMPLE).expect("room");
+            assert_eq!(got.table, [20, 0, 0, 20, 0, 0, 20, 0, 0]);
+            assert!(got.texts.is_empty());
+            let none = batch(&[], choice, 0, 0).expect("room");
+            assert_eq!(none.files(), 0);
+            // 18 is of the buffer.
+            let cut = batch(&frames[..9], choice, AMPLE, AMPLE);
+            assert_eq!(cut, Err(refusal(18, 0)));
+        }
+    }
+}
+
+/// Each file is measured by the rule.
+#[test]
+fn a_rule_is_for_each_file() {
+    let list = "const a: b = [\"東京都港区\", \"東京都港区\", \"東京都港区\", \
+        \"東京都港区\"];\n";
+    let bytes = script::frame(list).expect("a script");
+    let file = framed(split_any_size(&bytes).expect("a frame"));
+    let frames = [file.clone(), known("const"), file].concat();
+    let texts = |rule| {
+        let choice = Choice {
+            rule,
+            ..Choice::REFERENCE
+        };
+        let got = batch(&frames, choice, AMPLE, AMPLE).expect("room");
+        String::from_utf8(got.texts).expect("a text")
+    };
+    for rule in [rule::UNICODE_15_1, rule::UNICODE_16_0] {
+        assert_eq!(texts(rule), [list, "const A: u32 = 1;\n", list].concat());
+    }
+    assert_eq!(texts(rule::SUPPLIED).lines().count(), 6 + 1 + 6);
 }
 
 /// The sizes of a file: 8 behind 12 and 15, and 10 in no row.
@@ -268,6 +314,7 @@ fn generated_batches_reach_all() {
     let mut causes = BTreeMap::new();
     let mut counts = BTreeSet::new();
     let mut choices = BTreeSet::new();
+    let mut rules = BTreeSet::new();
     for index in 0..1_500 {
         let BatchCase { buffer, choice } = generate::batch_case(7, index);
         match split(&buffer) {
@@ -276,8 +323,9 @@ fn generated_batches_reach_all() {
             }
             Err(fault) => *causes.entry(fault.cause).or_insert(0) += 1,
         }
-        choices
-            .insert(choice.check().map_err(|refusal| refusal.number).err());
+        let refused = rule::check(choice.rule).and(choice.check()).err();
+        choices.insert(refused.map(|refusal| refusal.number));
+        rules.insert(choice.rule);
     }
     for (cause, name) in Cause::ALL {
         assert!(causes.get(&cause) > Some(&4), "{name}: {causes:?}");
@@ -285,8 +333,10 @@ fn generated_batches_reach_all() {
     for count in [0, 1, 2, 9, 40, 255, 256] {
         assert!(counts.contains(&count), "{count}: {counts:?}");
     }
-    let due = [None, Some(12), Some(15)];
+    let due = [None, Some(12), Some(15), Some(20)];
     assert_eq!(choices, BTreeSet::from(due));
+    let due = BTreeSet::from([0, 1, 2, 3, 4, 1 << 32, usize::MAX]);
+    assert!(rules.is_superset(&due), "{rules:?}");
 }
 
 #[test]
@@ -314,13 +364,13 @@ fn the_fixed_list_reaches_all() {
                 causes.insert(fault.cause);
             }
             Ok(_) => {
-                let got = answer(buffer, choice.width, choice.mode);
+                let got = batch(buffer, *choice, AMPLE, AMPLE).expect("room");
                 numbers.extend(got.table.chunks(3).map(|row| row[0]));
             }
         }
     }
     assert_eq!(causes.len(), Cause::ALL.len());
-    let due = [0, 1, 2, 3, 4, 5, 6, 7, 8, 12, 15];
+    let due = [0, 1, 2, 3, 4, 5, 6, 7, 8, 12, 15, 20];
     assert_eq!(numbers, BTreeSet::from(due));
 }
 

@@ -2,13 +2,14 @@
 
 use judge::{
     calls::{self, Answer, Call, Given, LayoutState, RenderState, World},
-    driver::{Pen, Texts, render_rows},
+    driver::{Page, Pen, Texts, render_rows},
     examples,
     frame::{self, Frame},
     generate::{self, CallCase, Class},
     mode::{NEW, OLD},
     program::{self, Widths},
     rows::{self, Row},
+    rule::SUPPLIED,
     width::REFERENCE,
 };
 
@@ -39,7 +40,12 @@ fn layout(stop: usize, close: bool) -> Call {
 }
 
 fn layout_in(mode: usize, stop: usize, close: bool) -> Call {
-    Call::Layout { stop, close, mode }
+    Call::Layout {
+        stop,
+        close,
+        mode,
+        rule: SUPPLIED,
+    }
 }
 
 fn render(stop: usize) -> Call {
@@ -51,6 +57,7 @@ fn render_at(width: usize, stop: usize) -> Call {
         stop,
         room: 1_000,
         width,
+        rule: SUPPLIED,
     }
 }
 
@@ -104,6 +111,7 @@ fn refused_calls_leave_all_as_it_was() {
         stop: 9,
         room: 16,
         width: REFERENCE,
+        rule: SUPPLIED,
     };
     let calls = [render(20), render(21), short];
     let refused = [Some((9, 2)), Some((11, 0)), Some((10, 17))];
@@ -394,6 +402,7 @@ fn rows_nest_256_deep() {
 fn the_cut_rule_holds_of_the_original() {
     assert!(cut_rule_holds(generate::call_case, 600) > 200);
     assert!(cut_rule_holds(generate::foot_case, 600) > 400);
+    assert!(cut_rule_holds(generate::rule_case, 600) > 200);
 }
 
 /// Holds calls one by one against the plain run, on lists of which the rule
@@ -467,7 +476,7 @@ fn rows_render_as_the_nodes_they_came_from() {
                 0,
                 Pen::default(),
                 &[],
-                REFERENCE,
+                Page::REFERENCE,
             );
             assert_eq!(rendered.text, run.text.as_bytes());
             assert_eq!(rendered.marks, run.marks);

@@ -193,7 +193,11 @@ fn a_whole_file_reads_one_table() {
     let frame = frame::split(&bytes).unwrap();
     let number = |image, width, mode| {
         let frame = Frame { image, ..frame };
-        let choice = Choice { width, mode };
+        let choice = Choice {
+            width,
+            mode,
+            ..Choice::REFERENCE
+        };
         let run = program::format_as(frame, Widths::Supplied, choice);
         run.err().map_or(0, |refusal| refusal.number)
     };

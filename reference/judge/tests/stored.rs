@@ -4,18 +4,29 @@ use std::collections::BTreeSet;
 
 use judge::{
     answers::{calls, frames, replay, report, stored},
-    calls::{Call, Given},
-    frame, program, reader, table,
+    calls::{Answer, Call, Given, World},
+    frame, program, reader,
+    refusal::Refusal,
+    rule::{LEGAL, SUPPLIED},
+    table,
 };
 
+/// A replay has room for so many bytes at once.
 #[test]
-fn they_take_less_than_three_megabytes() {
+fn each_set_has_room() {
+    const ROOM: usize = 1 << 21;
+    assert!(replay::calls_input().len() < ROOM);
+    assert!(replay::frames_input().len() < ROOM);
+}
+
+#[test]
+fn they_take_about_three_megabytes() {
     let frames: usize =
         stored::frames().map(|f| frames::answered(&f).len()).sum();
     let lists: usize = stored::lists()
         .map(|case| calls::answered(&case).len())
         .sum();
-    assert!(frames + lists < 3_000_000, "{frames} and {lists}");
+    assert!(frames + lists < 3_100_000, "{frames} and {lists}");
     assert!(stored::frames().count() > 2_500);
     assert!(stored::lists().count() > 300);
 }
@@ -138,6 +149,93 @@ fn every_cause_of_12_by_the_mode_is_among_the_lists() {
     }
 }
 
+/// What 20 and 12 refuse by the rule, of both kinds of calls; each rule chosen
+/// first and again; and texts that cut a character.
+#[test]
+fn every_cause_by_the_rule_is_among_the_lists() {
+    let mut causes = BTreeSet::new();
+    let mut torn = BTreeSet::new();
+    for case in replay::lists() {
+        let given = Given {
+            source: &case.source,
+            image: &case.image,
+        };
+        let mut world = case.world.clone();
+        for one in &case.calls {
+            let before = world.clone();
+            let answer = judge::calls::call(given, &mut world, *one);
+            let number = answer.err().map_or(0, |refusal| refusal.number);
+            match *one {
+                Call::Layout { rule, .. } => {
+                    let laying = before.laying;
+                    let cause = rule_cause(rule, laying.begun, laying.rule);
+                    causes.insert(("layout", number, rule, cause));
+                }
+                Call::Render { rule, .. } => {
+                    let carried = before.rendering.rule;
+                    let cause = rule_cause(rule, true, carried);
+                    causes.insert(("rendering", number, rule, cause));
+                    if number == 11 && answer != supplied(given, before, one)
+                    {
+                        torn.insert(rule);
+                    }
+                }
+            }
+        }
+    }
+    assert_eq!(torn, BTreeSet::from([2, 3]));
+    for kind in ["layout", "rendering"] {
+        for rule in [0, 4, 1 << 32, usize::MAX] {
+            for cause in ["none yet", "another"] {
+                let due = (kind, 20, rule, cause);
+                assert!(causes.contains(&due), "{due:?}");
+            }
+        }
+        for rule in LEGAL {
+            for (number, cause) in [
+                (0, "none yet"),
+                (0, "the same"),
+                (12, "another"),
+                (12, "none that is legal"),
+            ] {
+                let due = (kind, number, rule, cause);
+                assert!(causes.contains(&due), "{due:?}");
+            }
+            let cut = kind == "layout" || rule != SUPPLIED;
+            let due = (kind, 2, rule, "none yet");
+            assert_eq!(causes.contains(&due), cut, "{due:?}");
+        }
+    }
+    for rule in LEGAL {
+        let due = ("layout", 12, rule, "carried before it has begun");
+        assert!(causes.contains(&due), "{due:?}");
+    }
+}
+
+/// What a rendering call answers where widths are supplied.
+fn supplied(
+    given: Given,
+    mut world: World,
+    call: &Call,
+) -> Result<Answer, Refusal> {
+    world.rendering.rule = 0;
+    let mut call = *call;
+    if let Call::Render { rule, .. } = &mut call {
+        *rule = SUPPLIED;
+    }
+    judge::calls::call(given, &mut world, call)
+}
+
+fn rule_cause(rule: usize, begun: bool, carried: usize) -> &'static str {
+    match carried {
+        0 => "none yet",
+        _ if !begun => "carried before it has begun",
+        4.. => "none that is legal",
+        _ if rule == carried => "the same",
+        _ => "another",
+    }
+}
+
 fn mode_cause(mode: usize, carried: (bool, usize)) -> &'static str {
     match (mode, carried) {
         (0xFFFF_FFFF, _) => "the largest",
@@ -195,9 +293,9 @@ fn lists_of_steps_take_less_than_sixty_kilobytes() {
 }
 
 #[test]
-fn batches_take_about_sixty_kilobytes() {
+fn batches_take_about_seventy_kilobytes() {
     let bytes = replay::batches_input().len();
-    assert!((30_000..65_000).contains(&bytes), "{bytes}");
+    assert!((30_000..75_000).contains(&bytes), "{bytes}");
     assert!(stored::batches().count() >= 60);
 }
 

@@ -9,6 +9,7 @@ use judge::{
     mode::NEW,
     program::{self, Widths},
     reader::{self, Ranges},
+    rule::{UNICODE_15_1, UNICODE_16_0},
     script,
     tree::Input,
 };
@@ -78,6 +79,28 @@ fn texts_that_keep_all() {
         };
         assert_eq!(kept(source), *due);
         assert_eq!(kept(due), *due, "a second run changes nothing");
+    }
+}
+
+/// What the page shows by an edition of Unicode, the same by both.
+#[test]
+fn texts_by_unicode() {
+    let blocks = blocks("unicode");
+    assert!(!blocks.is_empty());
+    for block in blocks {
+        let [source, due] = &block[..] else {
+            panic!("{block:?}");
+        };
+        for rule in [UNICODE_15_1, UNICODE_16_0] {
+            let bytes = script::frame(source).expect("it can be read");
+            let frame = frame::split(&bytes).expect("a frame");
+            let choice = Choice {
+                rule,
+                ..Choice::REFERENCE
+            };
+            let run = program::format_as(frame, Widths::Supplied, choice);
+            assert_eq!(run.expect("accepted").text, *due, "{rule}");
+        }
     }
 }
 

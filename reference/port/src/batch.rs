@@ -2,7 +2,7 @@
 
 use judge::{choice::Choice, refusal::Refusal};
 
-use crate::{Out, port};
+use crate::{Out, port, typed::numbers};
 
 /// What the port says of an accepted batch.
 #[derive(Clone, Copy, Debug, PartialEq, Eq)]
@@ -19,7 +19,7 @@ pub fn batch(
     output: &mut [u8],
 ) -> Result<Batched, Refusal> {
     let mut out = Out::<4>::new();
-    let choice = [choice.width, choice.mode].map(|number| number as u64);
+    let choice = numbers(choice);
     port::batch(frames, &choice, table, output, out.places());
     let [files, bytes] = out.accepted()?;
     Ok(Batched { files, bytes })

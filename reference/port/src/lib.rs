@@ -2,6 +2,8 @@
 
 #[cfg(feature = "calls")]
 mod batch;
+#[cfg(feature = "calls")]
+mod columns;
 pub mod compare;
 #[cfg(feature = "calls")]
 mod figures;
@@ -17,6 +19,8 @@ mod steps;
 
 #[cfg(feature = "calls")]
 pub use batch::{Batched, batch};
+#[cfg(feature = "calls")]
+pub use columns::columns;
 #[cfg(feature = "calls")]
 pub use figures::count;
 use judge::refusal::Refusal;
@@ -107,7 +111,7 @@ impl<const N: usize> Out<N> {
         }
         match out {
             [0, rest @ ..] => Ok(*rest.first_chunk().expect("long enough")),
-            [number @ 1..=19, place, ..] => Err(Refusal {
+            [number @ 1..=20, place, ..] => Err(Refusal {
                 number: *number as u8,
                 place: *place,
             }),

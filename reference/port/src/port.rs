@@ -3,14 +3,15 @@
 
 #[cfg(feature = "stand-in")]
 pub use crate::stand_in::{
-    batch, check, count, format, layout, newlines, render, steps, write,
+    batch, check, columns, count, format, layout, newlines, render, steps,
+    write,
 };
 
 #[cfg(not(feature = "stand-in"))]
 pub use linked::check;
 #[cfg(all(feature = "calls", not(feature = "stand-in")))]
 pub use linked::{
-    batch, count, format, layout, newlines, render, steps, write,
+    batch, columns, count, format, layout, newlines, render, steps, write,
 };
 
 /// Those of the editor's crate, which its tests hold to the library.

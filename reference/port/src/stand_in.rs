@@ -2,6 +2,7 @@
 //! comparison runs and finds them.
 
 mod batch;
+mod rules;
 mod steps;
 mod words;
 
@@ -9,11 +10,8 @@ use std::sync::atomic::{AtomicU8, Ordering};
 
 pub use batch::batch;
 use judge::{
-    calls::{
-        Answer, Given, LayoutState, RenderState, World, layout_call,
-        render_call,
-    },
-    driver::{Pen, Stop},
+    calls::{Answer, Given, LayoutState, RenderState, World, layout_call},
+    driver::{Page, Pen, Stop},
     figures::{self, Counted, Figures, Fraction, MOST_FILES, Tallies},
     frame::Frame,
     image::{self, node},
@@ -25,6 +23,7 @@ use judge::{
     rows::Row,
     width,
 };
+pub use rules::columns;
 pub use steps::{steps, write};
 use words::respoken;
 
@@ -181,10 +180,64 @@ pub enum Fault {
     PastTexts,
     /// Refused files aren't counted.
     RefusedUncounted,
+    /// Every legal rule is that of supplied widths.
+    OneRule,
+    /// The other edition of Unicode.
+    OtherEdition,
+    /// Layout keeps the supplied widths.
+    SuppliedKept,
+    /// Rendering measures `Ascii` texts by their bytes.
+    AsciiByBytes,
+    /// Rendering measures `Str` texts anew.
+    StrMeasured,
+    /// The shebang is measured with the blanks behind it.
+    ShebangUntrimmed,
+    /// Layout forgets a carried rule.
+    LayoutRuleNotKept,
+    /// Rendering does.
+    RenderRuleNotKept,
+    /// The answered layout state has no rule.
+    LayoutRuleNotCarried,
+    /// The answered rendering state has none.
+    RenderRuleNotCarried,
+    /// A state that has not begun may carry a rule.
+    RuleBeforeBegun,
+    /// A begun state that carries none is refused.
+    NoRuleRefused,
+    /// 20 lets 0 pass, as supplied widths.
+    ZeroRule,
+    /// A rule is looked at in its lower four bytes.
+    RuleInFourBytes,
+    /// 20 comes after the refusals of source and image.
+    RuleLate,
+    /// Texts that cut a character pass.
+    TornTexts,
+    /// So do empty ones alone.
+    TornEmpty,
+    /// Empty texts at a byte 80 to BF are refused, whatever stands there.
+    StrayByte,
+    /// Torn texts are found behind all other faults of rows.
+    TornLate,
+    /// Texts are tested where widths are supplied too.
+    TornSupplied,
+    /// Rendering doesn't test 2.
+    NoTwo,
+    /// It does so where widths are supplied too.
+    TwoSupplied,
+    /// 3 comes before 2.
+    HeaderFirst,
+    /// An `Ascii` row stays a `Str` row after 10.
+    RowsTurned,
+    /// A code point has another width.
+    OneCodePoint,
+    /// A surrogate's bytes are counted.
+    BadBytesCounted,
+    /// Where columns are supplied, the text's bytes are.
+    BytesSupplied,
 }
 
 impl Fault {
-    pub const ALL: [Fault; 74] = [
+    pub const ALL: [Fault; 101] = [
         Fault::CheckPlace,
         Fault::Declarations,
         Fault::CommentsLeft,
@@ -259,6 +312,33 @@ impl Fault {
         Fault::PastTable,
         Fault::PastTexts,
         Fault::RefusedUncounted,
+        Fault::OneRule,
+        Fault::OtherEdition,
+        Fault::SuppliedKept,
+        Fault::AsciiByBytes,
+        Fault::StrMeasured,
+        Fault::ShebangUntrimmed,
+        Fault::LayoutRuleNotKept,
+        Fault::RenderRuleNotKept,
+        Fault::LayoutRuleNotCarried,
+        Fault::RenderRuleNotCarried,
+        Fault::RuleBeforeBegun,
+        Fault::NoRuleRefused,
+        Fault::ZeroRule,
+        Fault::RuleInFourBytes,
+        Fault::RuleLate,
+        Fault::TornTexts,
+        Fault::TornEmpty,
+        Fault::StrayByte,
+        Fault::TornLate,
+        Fault::TornSupplied,
+        Fault::NoTwo,
+        Fault::TwoSupplied,
+        Fault::HeaderFirst,
+        Fault::RowsTurned,
+        Fault::OneCodePoint,
+        Fault::BadBytesCounted,
+        Fault::BytesSupplied,
     ];
 }
 
@@ -286,8 +366,8 @@ fn put_refusal(out: &mut [u64], refusal: Refusal) {
     }
 }
 
-fn layout_state(state: &[u64; 8]) -> LayoutState {
-    let [begun, closed, next_declaration, at @ .., mode] =
+fn layout_state(state: &[u64; 9]) -> LayoutState {
+    let [begun, closed, next_declaration, at @ .., mode, rule] =
         state.map(|number| number as usize);
     let [next_row, next_number, comments_placed, position] = at;
     LayoutState {
@@ -301,12 +381,20 @@ fn layout_state(state: &[u64; 8]) -> LayoutState {
             position,
         },
         mode,
+        rule,
     }
 }
 
-fn render_state(state: &[u64; 6]) -> RenderState {
-    let [indent, next_indent, column, marks_in_use, next_row, width] =
-        state.map(|number| number as usize);
+fn render_state(state: &[u64; 7]) -> RenderState {
+    let [
+        indent,
+        next_indent,
+        column,
+        marks_in_use,
+        next_row,
+        width,
+        rule,
+    ] = state.map(|number| number as usize);
     RenderState {
         pen: Pen {
             indent,
@@ -316,6 +404,7 @@ fn render_state(state: &[u64; 6]) -> RenderState {
         marks_in_use,
         next_row,
         width,
+        rule,
     }
 }
 
@@ -338,9 +427,9 @@ pub fn layout(
     source: &[u8],
     image: &[u8],
     store: &mut [u32],
-    state: &[u64; 8],
-    args: &[u64; 3],
-    out: &mut [u64; 10],
+    state: &[u64; 9],
+    args: &[u64; 4],
+    out: &mut [u64; 11],
 ) {
     let mut world = World {
         store: store.to_vec(),
@@ -370,11 +459,11 @@ pub fn layout(
     }
 }
 
-/// A layout call, wrong where a fault on modes is planted.
+/// A layout call, wrong where a fault on modes or rules is planted.
 fn lay_out(
     given: Given,
     world: &mut World,
-    [stop, close, mode]: [usize; 3],
+    [stop, close, mode, rule]: [usize; 4],
 ) -> Result<Answer, Refusal> {
     let carried = &mut world.laying;
     if planted(Fault::ModeNotKept) && carried.begun {
@@ -385,9 +474,10 @@ fn lay_out(
     }
     let close = close != 0;
     let mut right = world.clone();
-    let answer = layout_call(given, &mut right, stop, close, mode)?;
+    let call = [stop, usize::from(close), mode, rule];
+    let answer = rules::lay_out(given, &mut right, call)?;
     let wrong = (close && closes_wrongly(mode))
-        .then(|| close_wrongly(given, world, stop, mode));
+        .then(|| close_wrongly(given, world, stop, [mode, rule]));
     if let Some(Some(answer)) = wrong {
         return Ok(answer);
     }
@@ -413,12 +503,13 @@ fn close_wrongly(
     given: Given,
     world: &mut World,
     stop: usize,
-    mode: usize,
+    [mode, rule]: [usize; 2],
 ) -> Option<Answer> {
     let before = world.clone();
     let read = reader::read(given.source, given.image).ok()?;
     let comments = read.comments.len();
-    layout_call(given, world, stop, false, mode).expect("it closes too");
+    layout_call(given, world, stop, false, mode, rule)
+        .expect("it closes too");
     let (image, end, way) = if planted(Fault::OneLeftBehind) {
         (without_last_comment(given.image), stop, mode)
     } else if planted(Fault::LeadingKept) && stop == 0 {
@@ -430,8 +521,9 @@ fn close_wrongly(
     };
     let Given { source, .. } = given;
     let image = &image[..];
+    let given = Given { source, image };
     (world.laying.next_declaration, world.laying.mode) = (end, way);
-    let closed = layout_call(Given { source, image }, world, end, true, way);
+    let closed = layout_call(given, world, end, true, way, rule);
     if closed.is_err() || (planted(Fault::LeadingKept) && stop > 0) {
         *world = before;
         return None;
@@ -510,6 +602,11 @@ fn put_laid(out: &mut [u64], state: &LayoutState, comments_left: usize) {
         } else {
             state.mode
         },
+        if planted(Fault::LayoutRuleNotCarried) {
+            0
+        } else {
+            state.rule
+        },
     ];
     put(out, &numbers.map(|number| number as u64));
 }
@@ -521,9 +618,9 @@ pub fn render(
     store: &mut [u32],
     marks: &mut [u8],
     output: &mut [u8],
-    state: &[u64; 6],
-    args: &[u64; 2],
-    out: &mut [u64; 8],
+    state: &[u64; 7],
+    args: &[u64; 3],
+    out: &mut [u64; 9],
 ) {
     let mut world = World {
         store: store.to_vec(),
@@ -533,9 +630,16 @@ pub fn render(
     };
     let before = world.rendering;
     let given = Given { source, image };
-    let [stop, width] = args.map(|number| number as usize);
-    let max = spoil_width(&mut world.rendering, width);
-    match render_call(given, &mut world, stop, output.len(), max) {
+    let [stop, width, rule] = args.map(|number| number as usize);
+    let page = Page {
+        width: spoil_width(&mut world.rendering, width),
+        rule,
+    };
+    let answer = rules::render(given, &mut world, stop, output.len(), page);
+    if planted(Fault::RowsTurned) {
+        store.copy_from_slice(&world.store);
+    }
+    match answer {
         Ok(Answer::Written { mut state, .. }) => {
             state.width = width;
             spoil_marks(&mut world, state.marks_in_use);
@@ -628,6 +732,11 @@ fn put_written(out: &mut [u64], state: &RenderState, bytes: usize) {
         state.marks_in_use,
         state.next_row,
         state.width,
+        if planted(Fault::RenderRuleNotCarried) {
+            0
+        } else {
+            state.rule
+        },
     ];
     put(out, &numbers.map(|number| number as u64));
 }
@@ -636,15 +745,19 @@ fn put_written(out: &mut [u64], state: &RenderState, bytes: usize) {
 pub fn format(
     source: &[u8],
     image: &[u8],
-    choice: &[u64; 2],
+    choice: &[u64; 3],
     output: &mut [u8],
     out: &mut [u64; 5],
 ) {
+    let [width, mode, rule] = *choice;
+    let given = Given { source, image };
+    if let Err(refusal) = rules::check(given, rule as usize) {
+        return put_refusal(out, refusal);
+    }
     let declarations = match reader::read(source, image) {
         Ok(read) => read.tree.children.len() as u64 - 1,
         Err(refusal) => return put_refusal(out, refusal),
     };
-    let [width, mode] = *choice;
     let mut tests =
         [mode::check(mode as usize), width::check(width as usize, 0)];
     if planted(Fault::WidthBeforeMode) {
@@ -658,17 +771,17 @@ pub fn format(
     }
     let mut store = vec![0; ROWS * Row::CELLS];
     let mut marks = vec![0; MARKS as usize];
-    let mut laid = [0; 10];
-    let (fresh, store) = ([0; 8], &mut store);
-    let args = [declarations, 1, mode];
+    let mut laid = [0; 11];
+    let (fresh, store) = ([0; 9], &mut store);
+    let args = [declarations, 1, mode, rule];
     layout(source, image, store, &fresh, &args, &mut laid);
     if laid[0] != 0 {
         return put(out, &laid[..2]);
     }
     let [rows, numbers] = [laid[5], laid[6]];
-    let mut shown = [0; 8];
-    let (fresh, marks) = ([0; 6], &mut marks);
-    let args = [rows, width];
+    let mut shown = [0; 9];
+    let (fresh, marks) = ([0; 7], &mut marks);
+    let args = [rows, width, rule];
     render(
         source, image, store, marks, output, &fresh, &args, &mut shown,
     );

@@ -3,7 +3,7 @@
 use judge::{
     calls::{Answer, Given, LayoutState, RenderState},
     choice::Choice,
-    driver::{Pen, Stop},
+    driver::{Page, Pen, Stop},
     refusal::Refusal,
 };
 
@@ -18,16 +18,16 @@ pub struct Formatted {
     pub numbers: u64,
 }
 
-/// A layout call of the port.
+/// A layout call of the port, in a mode and by a rule.
 pub fn layout(
     given: Given,
     store: &mut [u32],
     state: &LayoutState,
     stop: usize,
     close: bool,
-    mode: usize,
+    [mode, rule]: [usize; 2],
 ) -> Result<Answer, Refusal> {
-    let mut out = Out::<11>::new();
+    let mut out = Out::<12>::new();
     let numbers = [
         truth(state.begun),
         truth(state.closed),
@@ -37,18 +37,19 @@ pub fn layout(
         state.at.comments_placed as u64,
         state.at.position as u64,
         state.mode as u64,
+        state.rule as u64,
     ];
     port::layout(
         given.source,
         given.image,
         store,
         &numbers,
-        &[stop as u64, truth(close), mode as u64],
+        &[stop as u64, truth(close), mode as u64, rule as u64],
         out.places(),
     );
     let [comments_left, begun, closed, next, at @ ..] =
-        out.accepted::<9>()?;
-    let [next_row, next_number, comments_placed, position, mode] =
+        out.accepted::<10>()?;
+    let [next_row, next_number, comments_placed, position, mode, rule] =
         at.map(|number| number as usize);
     Ok(Answer::LaidOut {
         state: LayoutState {
@@ -62,6 +63,7 @@ pub fn layout(
                 position,
             },
             mode,
+            rule,
         },
         comments_left: comments_left as usize,
     })
@@ -75,9 +77,9 @@ pub fn render(
     output: &mut [u8],
     state: &RenderState,
     stop: usize,
-    width: usize,
+    page: Page,
 ) -> Result<Answer, Refusal> {
-    let mut out = Out::<9>::new();
+    let mut out = Out::<10>::new();
     let numbers = [
         state.pen.indent,
         state.pen.next_indent,
@@ -85,6 +87,7 @@ pub fn render(
         state.marks_in_use,
         state.next_row,
         state.width,
+        state.rule,
     ]
     .map(|number| number as u64);
     port::render(
@@ -94,7 +97,7 @@ pub fn render(
         marks,
         output,
         &numbers,
-        &[stop as u64, width as u64],
+        &[stop, page.width, page.rule].map(|number| number as u64),
         out.places(),
     );
     let [
@@ -105,7 +108,8 @@ pub fn render(
         marks_in_use,
         next_row,
         width,
-    ] = out.accepted::<7>()?.map(|number| number as usize);
+        rule,
+    ] = out.accepted::<8>()?.map(|number| number as usize);
     Ok(Answer::Written {
         state: RenderState {
             pen: Pen {
@@ -116,6 +120,7 @@ pub fn render(
             marks_in_use,
             next_row,
             width,
+            rule,
         },
         bytes,
     })
@@ -129,7 +134,7 @@ pub fn format(
 ) -> Result<Formatted, Refusal> {
     let mut out = Out::<6>::new();
     let Given { source, image } = given;
-    let choice = [choice.width, choice.mode].map(|number| number as u64);
+    let choice = numbers(choice);
     port::format(source, image, &choice, output, out.places());
     let [bytes, comments_left, rows, numbers] = out.accepted()?;
     Ok(Formatted {
@@ -138,6 +143,11 @@ pub fn format(
         rows,
         numbers,
     })
+}
+
+/// A choice for a whole file, or for each file of a batch.
+pub(crate) fn numbers(choice: Choice) -> [u64; 3] {
+    [choice.width, choice.mode, choice.rule].map(|number| number as u64)
 }
 
 /// Any number but 0 is true.

@@ -44,13 +44,8 @@ fn each_planted_fault_is_found() {
     for fault in Fault::ALL {
         plant(fault);
         let mut tally = Tally::default();
-        let mut items = PLAN.items();
-        // Batches come last but for reports.
-        if fault as u8 >= Fault::FramePlace as u8 {
-            items.reverse();
-        }
-        for item in items {
-            if !matches!(item, Item::Large(_)) && tally.differences == 0 {
+        for item in items(fault) {
+            if tally.differences == 0 {
                 one(&mut tally, item, PLAN.seed);
             }
         }
@@ -62,6 +57,30 @@ fn each_planted_fault_is_found() {
         assert!(tally.differences > 0, "{fault:?} isn't found");
         println!("{fault:?}\n{}", tally.report());
     }
+}
+
+/// What is compared to find a fault, the likely ones first.
+fn items(fault: Fault) -> Vec<Item> {
+    let mut items = PLAN.items();
+    items.retain(|item| !matches!(item, Item::Large(_)));
+    let of_points = [
+        Fault::OneCodePoint,
+        Fault::BadBytesCounted,
+        Fault::BytesSupplied,
+    ];
+    let is_points = |item: &Item| matches!(item, Item::Points(_));
+    items.retain(|item| is_points(item) == of_points.contains(&fault));
+    // Batches come last but for reports.
+    let batches = Fault::FramePlace as u8..=Fault::RefusedUncounted as u8;
+    if batches.contains(&(fault as u8)) {
+        items.reverse();
+    }
+    if fault as u8 >= Fault::OneRule as u8 {
+        items.sort_by_key(|item| {
+            !matches!(item, Item::Rules(_) | Item::Text(_))
+        });
+    }
+    items
 }
 
 fn texts_of_each_sort_are_tried(tally: &Tally) {
@@ -89,7 +108,8 @@ fn faulty_texts_are_found(tally: &Tally, fault: Fault) {
 fn the_words_are_those_of_the_port() {
     assert_eq!(PORT_WORDS, rows::fixed_words());
     // The literal goes on behind a backslash at a line's end.
-    let port = include_str!("../../../crates/rows/src/words.rt").replace("\\\n    ", "");
+    let port = include_str!("../../../crates/rows/src/words.rt")
+        .replace("\\\n    ", "");
     let literal = PORT_WORDS.replace('"', "\\\"");
     assert!(port.contains(&format!("*b\"{literal}\"")));
 }
@@ -102,6 +122,15 @@ fn items_are_repeated_by_their_names() {
     assert_eq!(Item::from_words("widths", 6), Some(Item::Wide(6)));
     assert_eq!(Item::from_words("feet", 7), Some(Item::Foot(7)));
     assert_eq!(Item::from_words("foot-list", 8), Some(Item::FootList(8)));
+    assert_eq!(Item::from_words("broad", 9), Some(Item::Broad(9)));
+    assert_eq!(Item::from_words("rule-list", 1), Some(Item::RuleList(1)));
+    assert_eq!(
+        Item::from_words("stretched-rules", 2),
+        Some(Item::StretchedRules(2))
+    );
+    assert_eq!(Item::from_words("rules", 3), Some(Item::Rules(3)));
+    assert_eq!(Item::from_words("text", 4), Some(Item::Text(4)));
+    assert_eq!(Item::from_words("points", 5), Some(Item::Points(5)));
     assert_eq!(Item::from_words("ranges", 5), Some(Item::Ranges(5)));
     assert_eq!(Item::from_words("files", 90), Some(Item::Files(90)));
     assert_eq!(Item::from_words("image", 6), Some(Item::Image(6)));
@@ -127,6 +156,8 @@ fn files_to_time_have_their_sizes() {
     assert!((1_900..2_200).contains(&sizes[0]), "{sizes:?}");
     assert!((63_000..=65_536).contains(&sizes[1]), "{sizes:?}");
     assert_eq!(all[3].files.len(), 100);
+    let japanese = inputs::japanese().files[0].source.len();
+    assert!((19_000..=20_000).contains(&japanese), "{japanese}");
     let saves = inputs::saves().files;
     assert_eq!(saves.len(), 256);
     for save in &saves {

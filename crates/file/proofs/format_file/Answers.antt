@@ -1,15 +1,18 @@
--- 1 to 7, and then the run of the accepted file.
+-- 20, then 1 to 7, and then the run of the accepted file.
 use Rattle.std.proofs.Common.{◌≡◌, sym, ap, ◌∙◌}
+use Rattle.std.specs.Prelude.{None}
 use Rattle.std.proofs.lemmas.Result.{err_from_is_err_and, IfOk-at_ok}
-use Rattle.refusals.specs.Reasons.{answer_of}
+use Rattle.refusals.specs.Reasons.{answer_of, refusal_in}
+use Rattle.cut_rule.specs.Parts.{rule_line}
 use Rattle.layout_call.specs.declared.accepted.Accepted.{Accepted}
 use Rattle.file.proofs.Steps.{check_refused}
 use Rattle.file.proofs.format_file.Goals as goal
 
 pub returns-in_err-file : goal.returns-in_err-file
 returns-in_err-file c =
-    let p = err_from_is_err_and c.from_residual.result c.from_residual.ensures.1 in
-    rw (p.1, p.2) (check_refused _ _ _ _ _ (sym c.check.ensures.answer ∙ ap (answer_of (λ (a : Accepted). a.doc)) c.in_err-file.was))
+    let p = err_from_is_err_and c.from_residual-in_err-file.result c.from_residual-in_err-file.ensures.1 in
+    let ruled : rule_line c.args.choice.rule ≡ None = sym c.rule_chosen.ensures ∙ ap refusal_in c.in_ok-rule_chosen.was in
+    rw (p.1, p.2) (check_refused _ _ _ ruled _ _ (sym c.check.ensures.answer ∙ ap (answer_of (λ (a : Accepted). a.doc)) c.in_err-file.was))
 
 pub returns : goal.returns
 returns c =

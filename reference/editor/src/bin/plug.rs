@@ -1,5 +1,6 @@
 //! `plug SEED FILES` runs the crate and its plug beside the original, on so
-//! many generated files of each class, and with comments at the foot.
+//! many generated files of each class, with comments at the foot, and with
+//! characters of two columns or none.
 
 use std::{env, process::ExitCode};
 
@@ -30,6 +31,8 @@ fn main() -> ExitCode {
     }
     let feet = (0..*files).map(|index| generate::foot_frame(*seed, index));
     differing += compare("Feet", *seed, feet);
+    let broad = (0..*files).map(|at| generate::broad_frame(*seed, at).0);
+    differing += compare("Broad", *seed, broad);
     println!("{differing} files differ");
     match differing {
         0 => ExitCode::SUCCESS,

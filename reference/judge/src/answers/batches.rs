@@ -1,6 +1,6 @@
 //! Batches with what is due for them.
 
-use super::{put_bytes, put_number};
+use super::{put_bytes, put_long, put_number};
 use crate::{batch::batch, generate::BatchCase};
 
 /// A batch with its answer where table and output have room.
@@ -8,8 +8,8 @@ pub fn answered(case: &BatchCase) -> Vec<u8> {
     let BatchCase { buffer, choice } = case;
     let mut out = Vec::new();
     put_bytes(&mut out, buffer);
-    for number in [choice.width, choice.mode] {
-        out.extend((number as u64).to_be_bytes());
+    for number in [choice.width, choice.mode, choice.rule] {
+        put_long(&mut out, number);
     }
     match batch(buffer, *choice, usize::MAX, usize::MAX) {
         Err(refusal) => {

@@ -1,6 +1,6 @@
 //! Lists of calls with what is due for them.
 
-use super::{put_bytes, put_number};
+use super::{put_bytes, put_long, put_number};
 use crate::{
     calls::{self, Answer, Call, Given, LayoutState, RenderState, World},
     driver::Stop,
@@ -40,17 +40,29 @@ fn put_world(out: &mut Vec<u8>, world: &World) {
 
 fn put_call(out: &mut Vec<u8>, call: &Call) {
     match *call {
-        Call::Layout { stop, close, mode } => {
+        Call::Layout {
+            stop,
+            close,
+            mode,
+            rule,
+        } => {
             out.push(0);
             put_number(out, stop);
             put_number(out, usize::from(close));
             put_number(out, mode);
+            put_long(out, rule);
         }
-        Call::Render { stop, room, width } => {
+        Call::Render {
+            stop,
+            room,
+            width,
+            rule,
+        } => {
             out.push(1);
             put_number(out, stop);
             put_number(out, room);
             put_number(out, width);
+            put_long(out, rule);
         }
     }
 }
@@ -91,13 +103,15 @@ fn put_layout_state(out: &mut Vec<u8>, state: &LayoutState) {
     put_number(out, comments_placed);
     put_number(out, position);
     put_number(out, state.mode);
+    put_number(out, state.rule);
 }
 
 fn put_render_state(out: &mut Vec<u8>, state: &RenderState) {
     put_number(out, state.pen.indent);
     put_number(out, state.pen.next_indent);
-    out.extend((state.pen.column as u64).to_be_bytes());
+    put_long(out, state.pen.column);
     put_number(out, state.marks_in_use);
     put_number(out, state.next_row);
     put_number(out, state.width);
+    put_number(out, state.rule);
 }

@@ -16,6 +16,11 @@ fn put_number(out: &mut Vec<u8>, value: usize) {
     out.extend(value.to_be_bytes());
 }
 
+/// Eight bytes, big-endian.
+fn put_long(out: &mut Vec<u8>, value: usize) {
+    out.extend((value as u64).to_be_bytes());
+}
+
 /// Bytes, led by their number.
 fn put_bytes(out: &mut Vec<u8>, bytes: &[u8]) {
     put_number(out, bytes.len());

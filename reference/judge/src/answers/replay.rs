@@ -15,9 +15,11 @@ use crate::{
 /// How often each refusal number was given, 0 for an accepted one.
 type Numbers = BTreeMap<u8, usize>;
 
-/// The stored lists, and behind them those that try rendering.
+/// The stored lists, and behind them those that try rendering, and rules.
 pub fn lists() -> impl Iterator<Item = CallCase> {
-    stored::lists().chain(generate::rendering_cases())
+    stored::lists()
+        .chain(generate::rendering_cases())
+        .chain(generate::rule_cases())
 }
 
 /// The lists with their answers.

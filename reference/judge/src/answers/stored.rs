@@ -29,13 +29,14 @@ pub const FRAMES: [(Class, u64, u64, usize); 8] = [
 /// list with its answers that is kept.
 type Lists = (fn(u64, u64) -> CallCase, u64, u64, usize);
 
-pub const LISTS: [Lists; 5] = [
+pub const LISTS: [Lists; 6] = [
     (generate::call_case, 1, 900, 4_000),
     (generate::cut_case, 1, 150, 10_000),
     (generate::foot_case, 1, 180, 2_200),
     (generate::unreadable_case, 1, 120, 4_000),
     // Its only one is a source too long.
     (generate::unreadable_case, LONG, 1, 70_000),
+    (generate::rule_case, 1, 120, 2_000),
 ];
 
 /// A seed under which the first source is one byte too long.

@@ -1,4 +1,4 @@
-//! A layout call: refusals 1 to 7, 12, 8.
+//! A layout call: refusals 20, 1 to 7, 12, 8.
 
 use super::{Answer, Given, MOST_ROWS, World};
 use crate::{
@@ -6,6 +6,7 @@ use crate::{
     mode,
     reader::{self, Accepted},
     refusal::{Refusal, refusal},
+    rule,
     tree::Input,
 };
 
@@ -20,24 +21,29 @@ pub struct LayoutState {
     pub at: Stop,
     /// That of the calls so far; 0 before the first.
     pub mode: usize,
+    /// 0: none yet.
+    pub rule: usize,
 }
 
-/// Lays out from where the state stands to before declaration `stop`, and
-/// closes by the mode.
+/// Lays out from where the state stands to before declaration `stop`, closes
+/// by the mode, and measures by the rule.
 pub fn layout_call(
     given: Given,
     world: &mut World,
     stop: usize,
     close: bool,
     mode: usize,
+    rule: usize,
 ) -> Result<Answer, Refusal> {
+    rule::check(rule)?;
     let accepted = reader::read(given.source, given.image)?;
     check_state(world, &accepted, stop, close)?;
     check_mode(&world.laying, mode)?;
+    rule::check_carried(rule, world.laying.rule)?;
     let input = Input::new(&accepted, given.image);
     let _held = input.supply_widths();
     let state = world.laying;
-    let mut layout = Layout::new(&input, state.at);
+    let mut layout = Layout::new(&input, state.at, rule);
     if !state.begun {
         layout.shebang();
     }
@@ -58,6 +64,7 @@ pub fn layout_call(
         next_declaration: stop,
         at,
         mode,
+        rule,
     };
     Ok(Answer::LaidOut {
         state: world.laying,

@@ -12,7 +12,7 @@ pub use layout::{LayoutState, layout_call};
 pub use plain::{plain_run, reads_laid_rows_alone};
 pub use render::{RenderState, render_call};
 
-use crate::{refusal::Refusal, rows::Row};
+use crate::{driver::Page, refusal::Refusal, rows::Row};
 
 pub const MOST_ROWS: usize = 2_097_152;
 pub const MOST_ROW_DEPTH: usize = 256;
@@ -20,17 +20,20 @@ pub const MOST_ROW_DEPTH: usize = 256;
 /// A call's arguments, but for what it is handed on.
 #[derive(Clone, Copy, Debug, PartialEq, Eq)]
 pub enum Call {
-    /// The declaration to stop before, whether to close, and the mode.
+    /// The declaration to stop before, whether to close, the mode and the
+    /// rule.
     Layout {
         stop: usize,
         close: bool,
         mode: usize,
+        rule: usize,
     },
-    /// The row to stop before, the bytes of output, and the width.
+    /// The row to stop before, the bytes of output, the width and the rule.
     Render {
         stop: usize,
         room: usize,
         width: usize,
+        rule: usize,
     },
 }
 
@@ -94,11 +97,20 @@ pub fn call(
     call: Call,
 ) -> Result<Answer, Refusal> {
     match call {
-        Call::Layout { stop, close, mode } => {
-            layout_call(given, world, stop, close, mode)
-        }
-        Call::Render { stop, room, width } => {
-            render_call(given, world, stop, room, width)
+        Call::Layout {
+            stop,
+            close,
+            mode,
+            rule,
+        } => layout_call(given, world, stop, close, mode, rule),
+        Call::Render {
+            stop,
+            room,
+            width,
+            rule,
+        } => {
+            let page = Page { width, rule };
+            render_call(given, world, stop, room, page)
         }
     }
 }

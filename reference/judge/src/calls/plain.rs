@@ -4,13 +4,12 @@
 use super::{Answer, Call, Given, World, call};
 use crate::refusal::Refusal;
 
-/// How far both came; `None` before the first accepted call of a kind.
+/// How far both came, and what the accepted calls chose: the last accepted
+/// call of a kind, `None` before the first.
 #[derive(Clone, Copy, Default)]
 struct Far {
-    /// With the mode that the accepted calls chose.
-    laid: Option<(usize, bool, usize)>,
-    /// With the width that the accepted calls chose.
-    shown: Option<(usize, usize)>,
+    laid: Option<Call>,
+    shown: Option<Call>,
 }
 
 /// The answers and what is due in the end, from fresh states.
@@ -29,11 +28,17 @@ pub fn plain_run(
         let answer = call(given, &mut due(given, store, marks, far), *one);
         if answer.is_ok() {
             match *one {
-                Call::Layout { stop, close, mode } => {
-                    far.laid = Some((stop, close, mode))
-                }
-                Call::Render { stop, width, .. } => {
-                    far.shown = Some((stop, width))
+                Call::Layout { .. } => far.laid = Some(*one),
+                Call::Render {
+                    stop, width, rule, ..
+                } => {
+                    // In one go there is more to write.
+                    far.shown = Some(Call::Render {
+                        stop,
+                        room: usize::MAX,
+                        width,
+                        rule,
+                    });
                 }
             }
         }
@@ -50,16 +55,7 @@ fn due(given: Given, store: &[u32], marks: &[u8], far: Far) -> World {
         marks: marks.to_vec(),
         ..World::default()
     };
-    if let Some((stop, close, mode)) = far.laid {
-        let one = Call::Layout { stop, close, mode };
-        call(given, &mut world, one).expect("accepted before");
-    }
-    if let Some((stop, width)) = far.shown {
-        let one = Call::Render {
-            stop,
-            room: usize::MAX,
-            width,
-        };
+    for one in [far.laid, far.shown].into_iter().flatten() {
         call(given, &mut world, one).expect("accepted before");
     }
     world

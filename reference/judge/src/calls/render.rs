@@ -1,12 +1,13 @@
-//! A rendering call: refusals 1, 3, 11, 12, 15, 9, 10.
+//! A rendering call: refusals 20, 1, 2 unless widths are supplied, 3, 11, 12,
+//! 15, 9, 10.
 
 use super::{Answer, Given, MOST_ROWS, World, row_check};
 use crate::{
-    driver::{Pen, RenderedRows, Texts, render_rows},
+    driver::{Page, Pen, RenderedRows, Texts, render_rows},
     reader,
     refusal::{Refusal, refusal},
     rows::{self, Row},
-    width,
+    rule, width,
 };
 
 const MOST_INDENT: usize = 64;
@@ -20,6 +21,8 @@ pub struct RenderState {
     pub next_row: usize,
     /// 0: none yet.
     pub width: usize,
+    /// 0: none yet.
+    pub rule: usize,
 }
 
 /// Renders the rows from the state's next row to before row `stop`.
@@ -28,9 +31,13 @@ pub fn render_call(
     world: &mut World,
     stop: usize,
     room: usize,
-    width: usize,
+    page: Page,
 ) -> Result<Answer, Refusal> {
+    rule::check(page.rule)?;
     reader::check_source_length(given.source)?;
+    if page.rule != rule::SUPPLIED {
+        reader::check_encoding(given.source)?;
+    }
     reader::check_header(given.image)?;
     if stop > world.room_for_rows() || stop > MOST_ROWS {
         return Err(refusal(11, 0));
@@ -43,20 +50,21 @@ pub fn render_call(
         words: words.as_bytes(),
     };
     let rows = world.rows(stop);
-    row_check::check(texts, &rows, state.next_row)?;
+    row_check::check(texts, &rows, state.next_row, page.rule)?;
     check_state(world, stop)?;
-    width::check(width, state.width)?;
+    rule::check_carried(page.rule, state.rule)?;
+    width::check(page.width, state.width)?;
     check_marks(world, &rows)?;
     let in_use = &world.marks[..state.marks_in_use];
     let rendered =
-        render_rows(texts, &rows, state.next_row, state.pen, in_use, width);
+        render_rows(texts, &rows, state.next_row, state.pen, in_use, page);
     if rendered.text.len() > room {
         return Err(refusal(10, rendered.text.len()));
     }
-    Ok(write(world, stop, width, &rendered))
+    Ok(write(world, stop, page, &rendered))
 }
 
-/// Refusal 12.
+/// Refusal 12, but for the rule.
 fn check_state(world: &World, stop: usize) -> Result<(), Refusal> {
     let RenderState {
         pen,
@@ -86,7 +94,7 @@ fn check_marks(world: &World, rows: &[Row]) -> Result<(), Refusal> {
 fn write(
     world: &mut World,
     stop: usize,
-    width: usize,
+    page: Page,
     rendered: &RenderedRows,
 ) -> Answer {
     world.marks[..rendered.marks.len()].copy_from_slice(&rendered.marks);
@@ -95,7 +103,8 @@ fn write(
         pen: rendered.pen,
         marks_in_use: rendered.marks.len(),
         next_row: stop,
-        width,
+        width: page.width,
+        rule: page.rule,
     };
     Answer::Written {
         state: world.rendering,

@@ -5,13 +5,21 @@ use crate::{
     driver::Texts,
     refusal::{Refusal, refusal},
     rows::{self, Row},
+    rule,
 };
 
-/// Tests the rows from `from` to the end of `rows`, which is the stop.
-pub fn check(texts: Texts, rows: &[Row], from: usize) -> Result<(), Refusal> {
+/// Tests the rows from `from` to the end of `rows`, which is the stop, under
+/// a rule.
+pub fn check(
+    texts: Texts,
+    rows: &[Row],
+    from: usize,
+    rule: usize,
+) -> Result<(), Refusal> {
     let mut check = Check {
         texts,
         rows,
+        whole_texts: rule != rule::SUPPLIED,
         ends: Vec::new(),
     };
     for place in from..rows.len() {
@@ -25,6 +33,8 @@ pub fn check(texts: Texts, rows: &[Row], from: usize) -> Result<(), Refusal> {
 struct Check<'c> {
     texts: Texts<'c>,
     rows: &'c [Row],
+    /// Whether texts must be UTF-8 and cut no character.
+    whole_texts: bool,
     /// The rows after the open ones, outermost first.
     ends: Vec<usize>,
 }
@@ -41,7 +51,7 @@ impl Check<'_> {
         let right = self.ends.len() < MOST_ROW_DEPTH
             && row.kind <= rows::CALL
             && unused_places_are_zero(row)
-            && self.text_is_there(row)
+            && self.text_is_right(row)
             && place < after
             && after <= limit
             && self.parts_are_right(place, row);
@@ -49,14 +59,21 @@ impl Check<'_> {
         right
     }
 
-    fn text_is_there(&self, row: &Row) -> bool {
-        let size = match row.origin {
-            rows::SOURCE => self.texts.source.len(),
-            rows::IMAGE => self.texts.image.len(),
-            rows::WORDS => self.texts.words.len(),
-            _ => return false,
+    /// A row without a text has the empty one at the source's start.
+    fn text_is_right(&self, row: &Row) -> bool {
+        let Some(origin) = self.texts.origin(row.origin) else {
+            return false;
         };
-        u64::from(row.start) + u64::from(row.length) <= size as u64
+        let start = row.start as usize;
+        let end = start + row.length as usize;
+        let Some(text) = origin.get(start..end) else {
+            return false;
+        };
+        let whole = || {
+            let cut = [start, end].into_iter().any(|at| cuts(origin, at));
+            std::str::from_utf8(text).is_ok() && !cut
+        };
+        !self.whole_texts || whole()
     }
 
     /// What a kind says of its parts; their own ranges are theirs to answer
@@ -93,6 +110,21 @@ impl Check<'_> {
         }
         at == place
     }
+}
+
+/// Whether a character of some bytes starts before a place and ends behind
+/// it. They needn't be UTF-8 as a whole.
+fn cuts(bytes: &[u8], at: usize) -> bool {
+    const LONGEST: usize = 4;
+    let starts = at.saturating_sub(LONGEST - 1)..at;
+    starts.into_iter().any(|start| {
+        let ends = at + 1..=bytes.len().min(start + LONGEST);
+        ends.into_iter().any(|end| is_character(&bytes[start..end]))
+    })
+}
+
+fn is_character(bytes: &[u8]) -> bool {
+    std::str::from_utf8(bytes).is_ok_and(|text| text.chars().count() == 1)
 }
 
 /// Which places a kind uses besides kind and row after.

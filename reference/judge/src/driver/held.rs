@@ -7,7 +7,7 @@ use super::{
     Layout, Stop, Texts,
     decode::{Shadow, decode},
 };
-use crate::{mode, rows::Row, tree::Input, width};
+use crate::{mode, rows::Row, rule, tree::Input, width};
 
 /// `fmt_parsed` itself.
 pub fn format(input: &Input) -> String {
@@ -20,7 +20,7 @@ pub struct Held<'s>(Vec<Node<'s>>);
 impl<'s> Held<'s> {
     /// The layout half of `fmt_parsed`.
     pub fn lay_out(input: &'s Input) -> Self {
-        let mut layout = Layout::new(input, Stop::default());
+        let mut layout = Layout::new(input, Stop::default(), rule::SUPPLIED);
         layout.shebang();
         for place in 0..input.declarations() {
             layout.declaration(place);

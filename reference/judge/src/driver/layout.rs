@@ -3,8 +3,8 @@
 use super::{
     super::{Node, Nodes, State, fmt_parsed},
     Run,
-    render::{Pen, Rendering, Shown},
-    with_choice,
+    render::{Page, Pen, Rendering, Shown},
+    with_choice, with_rule,
 };
 use crate::{
     choice::Choice,
@@ -12,6 +12,7 @@ use crate::{
     parser::Extras,
     rows::{self, Row},
     tree::Input,
+    unedited,
 };
 
 /// How far a layout came, but for the declarations.
@@ -28,9 +29,10 @@ pub fn run(input: &Input) -> Run {
     run_as(input, Choice::REFERENCE)
 }
 
-/// The same with another `max` or mode.
+/// The same with another `max`, mode or rule.
 pub fn run_as(input: &Input, choice: Choice) -> Run {
-    let mut layout = Layout::new(input, Stop::default());
+    let Choice { width, mode, rule } = choice;
+    let mut layout = Layout::new(input, Stop::default(), rule);
     layout.shebang();
     let mut stops = vec![layout.stop()];
     let mut ends = vec![layout.nodes.len()];
@@ -39,14 +41,19 @@ pub fn run_as(input: &Input, choice: Choice) -> Run {
         stops.push(layout.stop());
         ends.push(layout.nodes.len());
     }
-    layout.close(choice.mode);
+    layout.close(mode);
     let closed = layout.stop();
-    let (shown, rendering) = rendered(&layout.nodes, &ends, choice.width);
+    let page = Page { width, rule };
+    let (shown, rendering) = rendered(&layout.nodes, &ends, page);
     let rendered = rendering.finish();
     let original = with_choice(choice, || {
         fmt_parsed(&input.ast, &input.files, &input.spans, &input.extras)
     });
     assert_eq!(rendered.text, original, "the driver strays from fmt_parsed");
+    if cfg!(debug_assertions) && choice == Choice::REFERENCE {
+        let plain = unedited::format(input);
+        assert_eq!(original, plain, "the edits change fmt_parsed");
+    }
     Run {
         rows: layout.rows,
         stops,
@@ -64,9 +71,9 @@ pub fn run_as(input: &Input, choice: Choice) -> Run {
 fn rendered(
     nodes: &[Node],
     ends: &[usize],
-    width: usize,
+    page: Page,
 ) -> (Vec<Shown>, Rendering) {
-    let mut rendering = Rendering::new(Pen::default(), &[], width);
+    let mut rendering = Rendering::new(Pen::default(), &[], page);
     let mut shown = Vec::new();
     let mut from = 0;
     for end in ends {
@@ -81,6 +88,8 @@ fn rendered(
 /// The layout of `fmt_parsed` taken apart, to start and stop in between.
 pub struct Layout<'s> {
     input: &'s Input<'s>,
+    /// By which `Str` texts are measured.
+    rule: usize,
     pub(super) nodes: Vec<Node<'s>>,
     /// The nodes as rows, as far as [`Layout::stop`] was asked for them.
     pub rows: Vec<Row>,
@@ -92,12 +101,13 @@ pub struct Layout<'s> {
 }
 
 impl<'s> Layout<'s> {
-    /// Goes on from a stop, which must lie within the comments.
-    pub fn new(input: &'s Input, from: Stop) -> Self {
+    /// Goes on from a stop, which must lie within the comments, by a rule.
+    pub fn new(input: &'s Input, from: Stop, rule: usize) -> Self {
         let mut extras = input.extras.clone();
         extras.comments.drain(..from.comments_placed);
         Layout {
             input,
+            rule,
             nodes: Vec::new(),
             rows: Vec::new(),
             first_row: from.next_row,
@@ -121,14 +131,17 @@ impl<'s> Layout<'s> {
 
     pub fn shebang(&mut self) {
         if let Some(shebang) = &self.input.ast.shebang {
-            self.nodes.push(Node::str(shebang.trim_end()));
+            let text = || Node::str(shebang.trim_end());
+            self.nodes.push(with_rule(self.rule, text));
             self.nodes.push(Node::EmptyLine);
         }
     }
 
     pub fn declaration(&mut self, place: usize) {
         let declaration = &self.input.ast.declarations[place];
-        self.state().declaration(declaration, place == 0);
+        with_rule(self.rule, || {
+            self.state().declaration(declaration, place == 0);
+        });
     }
 
     /// The final `Line`. In the new mode the waiting comments come before it,

@@ -11,11 +11,11 @@ mod render;
 pub use decode::{RenderedRows, Texts, render_rows};
 pub use held::{Held, HeldTexts, format};
 pub use layout::{Layout, Stop, run, run_as};
-pub use render::{Pen, Shown};
+pub use render::{Page, Pen, Shown};
 
 use std::cell::Cell;
 
-use crate::{choice::Choice, mode, rows::Row};
+use crate::{choice::Choice, mode, rows::Row, rule};
 
 thread_local! {
     static CHOICE: Cell<Choice> = const { Cell::new(Choice::REFERENCE) };
@@ -31,12 +31,39 @@ pub(super) fn keeps_all() -> bool {
     CHOICE.get().mode == mode::NEW
 }
 
-/// Runs something for which `fmt_parsed` has another `max` or mode.
+/// What a text measures on this thread, where the original has `own`. The
+/// build for timing doesn't ask for the rule.
+pub(super) fn measure(text: &str, own: usize) -> usize {
+    if cfg!(debug_assertions) {
+        rule::measure(CHOICE.get().rule, text, own)
+    } else {
+        own
+    }
+}
+
+/// Runs something for which `fmt_parsed` has another `max`, mode or rule.
 fn with_choice<T>(choice: Choice, run: impl FnOnce() -> T) -> T {
-    let before = CHOICE.replace(choice);
-    let result = run();
-    CHOICE.set(before);
-    result
+    /// The choice before, which holds again however the run ends.
+    struct Before(Choice);
+    impl Drop for Before {
+        fn drop(&mut self) {
+            CHOICE.set(self.0);
+        }
+    }
+    if cfg!(not(debug_assertions)) {
+        assert_eq!(choice.rule, rule::SUPPLIED, "this build has no other");
+    }
+    let _before = Before(CHOICE.replace(choice));
+    run()
+}
+
+/// Runs a part of it whose texts are measured by a rule.
+fn with_rule<T>(rule: usize, run: impl FnOnce() -> T) -> T {
+    let choice = Choice {
+        rule,
+        ..Choice::REFERENCE
+    };
+    with_choice(choice, run)
 }
 
 /// All that a run of the formatter on one file gives.

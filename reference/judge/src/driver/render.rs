@@ -2,7 +2,11 @@
 
 use std::collections::HashSet;
 
-use super::super::{Node, Renderer};
+use super::{
+    super::{Node, Renderer},
+    with_rule,
+};
+use crate::{rule, width};
 
 /// The three numbers that a rendering carries on.
 #[derive(Clone, Copy, Debug, Default, PartialEq, Eq)]
@@ -10,6 +14,22 @@ pub struct Pen {
     pub indent: usize,
     pub next_indent: usize,
     pub column: usize,
+}
+
+/// What a rendering chooses: the `max` of `Renderer`, and the rule by which
+/// it measures `Ascii` texts.
+#[derive(Clone, Copy, Debug, PartialEq, Eq)]
+pub struct Page {
+    pub width: usize,
+    pub rule: usize,
+}
+
+impl Page {
+    /// What `fmt_parsed` has.
+    pub const REFERENCE: Page = Page {
+        width: width::REFERENCE,
+        rule: rule::SUPPLIED,
+    };
 }
 
 #[derive(Clone, Debug)]
@@ -31,15 +51,15 @@ pub struct Shown {
     pub marks: Vec<u8>,
 }
 
-/// Renders nodes as `fmt_parsed` does, from a given state and with a width.
+/// Renders nodes as `fmt_parsed` does, from a given state and on a page.
 /// Marks grow to the largest number that the nodes hold, plus 1.
 pub(in super::super) fn render(
     nodes: &[Node],
     pen: Pen,
     marks: Vec<u8>,
-    width: usize,
+    page: Page,
 ) -> Rendered {
-    let mut rendering = Rendering::new(pen, &marks, width);
+    let mut rendering = Rendering::new(pen, &marks, page);
     rendering.nodes(nodes);
     rendering.finish()
 }
@@ -47,30 +67,34 @@ pub(in super::super) fn render(
 /// A `Renderer` under way, with its marks as bytes.
 pub(super) struct Rendering {
     renderer: Renderer,
+    rule: usize,
     marks_in_use: usize,
 }
 
 impl Rendering {
-    pub(super) fn new(pen: Pen, marks: &[u8], width: usize) -> Self {
+    pub(super) fn new(pen: Pen, marks: &[u8], page: Page) -> Self {
         let renderer = Renderer {
             buf: String::new(),
             indent: pen.indent,
             next_indent: pen.next_indent,
             column: pen.column,
             greatest: 0,
-            max: width,
+            max: page.width,
             wrapped: wrapped_numbers(marks),
         };
         Rendering {
             renderer,
+            rule: page.rule,
             marks_in_use: marks.len(),
         }
     }
 
     pub(super) fn nodes(&mut self, nodes: &[Node]) {
-        for node in nodes {
-            self.renderer.render_node(node, true);
-        }
+        with_rule(self.rule, || {
+            for node in nodes {
+                self.renderer.render_node(node, true);
+            }
+        });
         let needed = nodes.iter().map(marks_needed).max().unwrap_or(0);
         self.marks_in_use = self.marks_in_use.max(needed);
     }

@@ -1,7 +1,9 @@
 //! Batches: up to 257 files of all classes in a buffer, some buffers damaged,
 //! and what is chosen for them.
 
-use super::{damaged, edges, feet, modes, realistic, sizes, widths, wild};
+use super::{
+    broad, damaged, edges, feet, modes, realistic, rules, sizes, widths, wild,
+};
 use crate::{
     batch::MOST_FILES,
     choice::Choice,
@@ -24,8 +26,12 @@ pub struct Case {
 /// One batch by seed and index.
 pub fn case(seed: u64, index: u64) -> Case {
     let random = &mut Random::new(RANDOM, seed, index);
-    let width = widths::legal(random);
-    let frames = frames(random, width);
+    let choice = Choice {
+        width: widths::legal(random),
+        mode: modes::legal(random),
+        rule: rules::legal(random),
+    };
+    let frames = frames(random, choice);
     let mut starts = vec![0];
     for frame in &frames {
         starts.push(starts[starts.len() - 1] + frame.len());
@@ -34,21 +40,21 @@ pub fn case(seed: u64, index: u64) -> Case {
     for _ in 0..*random.pick(&[0, 0, 0, 0, 0, 1, 1, 2]) {
         damage(random, &mut buffer, &starts);
     }
-    let choice = choice(random, width);
+    let choice = spoiled(random, choice);
     Case { buffer, choice }
 }
 
-/// This width and a mode; one in eight has a number that can't be chosen.
-fn choice(random: &mut Random, width: usize) -> Choice {
+/// One in six has a number that can't be chosen.
+fn spoiled(random: &mut Random, mut choice: Choice) -> Choice {
     // What is added to numbers that are legal in their lower four bytes.
     const FAR: usize = 1 << 32;
-    let mode = modes::legal(random);
-    let mut choice = Choice { width, mode };
     match random.below(64) {
         0..3 => choice.width = *random.pick(&widths::ILLEGAL),
         3 => choice.width += FAR,
         4..7 => choice.mode = *random.pick(&modes::ILLEGAL),
         7 => choice.mode += FAR,
+        8..10 => choice.rule = *random.pick(&rules::ILLEGAL),
+        10 => choice.rule += FAR,
         _ => {}
     }
     choice
@@ -56,7 +62,7 @@ fn choice(random: &mut Random, width: usize) -> Choice {
 
 /// Files in their frames: mostly a few, and now and then none, or as many as
 /// there may be, one less or one more.
-fn frames(random: &mut Random, width: usize) -> Vec<Vec<u8>> {
+fn frames(random: &mut Random, choice: Choice) -> Vec<Vec<u8>> {
     let count = match random.below(32) {
         0 => 0,
         1..4 => 1,
@@ -67,13 +73,13 @@ fn frames(random: &mut Random, width: usize) -> Vec<Vec<u8>> {
     let short_ones = count > 40;
     let one = |_| match short_ones && !random.once_in(16) {
         true => short(random),
-        false => file(random, width),
+        false => file(random, choice),
     };
     (0..count).map(one).collect()
 }
 
 /// A file of any class, the lines of some about as long as the width.
-pub(super) fn file(random: &mut Random, width: usize) -> Vec<u8> {
+pub(super) fn file(random: &mut Random, choice: Choice) -> Vec<u8> {
     loop {
         let bytes = match random.below(64) {
             0 => {
@@ -81,8 +87,9 @@ pub(super) fn file(random: &mut Random, width: usize) -> Vec<u8> {
                 frame::join(&case.source, &case.image)
             }
             1..12 => damaged::frame(random),
-            12..20 => edges::draft_at(random, width).frame(),
-            20..32 => wild::draft(random).frame(),
+            12..20 => edges::draft_at(random, choice.width).frame(),
+            20..26 => wild::draft(random).frame(),
+            26..32 => broad::draft(random, choice).frame(),
             32..44 => feet::draft(random).frame(),
             44..52 => realistic::draft(random).frame(),
             52..60 => realistic::short_draft(random).frame(),

@@ -32,10 +32,14 @@ pub fn draft(random: &mut Random) -> Draft {
 }
 
 pub fn draft_at(random: &mut Random, width: usize) -> Draft {
+    let left = *random.pick(&[4, 10, 25]);
+    let fill = Plain {
+        longest: *random.pick(&[4, 12, 40]),
+    };
     let mut draft = Draft {
         source: SOURCE.into(),
         comments: vec![],
-        tree: tree(random),
+        tree: tree(random, fill, left),
     };
     if random.once_in(5) {
         let start = random.below(SOURCE.len());
@@ -62,12 +66,13 @@ fn stretch(draft: &mut Draft, marked: usize, target: usize, width: usize) {
     }
 }
 
-/// A declaration of any kind, or an expression of any kind at some nesting.
-fn tree(random: &mut Random) -> Tree {
-    let left = *random.pick(&[4, 10, 25]);
-    let fill = Plain {
-        longest: *random.pick(&[4, 12, 40]),
-    };
+/// A declaration of any kind, or an expression of any kind at some nesting, of
+/// about so many records.
+pub(super) fn tree(
+    random: &mut Random,
+    fill: impl Fill,
+    left: usize,
+) -> Tree {
     let mut shapes = Shapes { random, fill, left };
     let declaration = if shapes.random.once_in(3) {
         shapes.record(Place::Declaration, 2)
@@ -77,8 +82,8 @@ fn tree(random: &mut Random) -> Tree {
     node(1, 0..0, [None, Some(declaration)])
 }
 
-/// A statement in blocks in a function.
-fn nested(shapes: &mut Shapes<Plain>) -> Tree {
+/// A statement with any expression, in blocks in a function.
+fn nested(shapes: &mut Shapes<impl Fill>) -> Tree {
     let blocks = shapes.random.below(6);
     let kind = shapes.random.between(50, 70) as u8;
     let expr = shapes.of_kind(kind, Place::Expr, 20);
@@ -89,6 +94,23 @@ fn nested(shapes: &mut Shapes<Plain>) -> Tree {
         let ty = ty.then(|| shapes.record(Place::Type, 20));
         node(30, 0..0, [name("v"), ty, Some(expr)])
     };
+    in_so_many_blocks(shapes, statement, blocks)
+}
+
+/// A statement in blocks in a function.
+pub(super) fn in_blocks(
+    shapes: &mut Shapes<impl Fill>,
+    statement: Tree,
+) -> Tree {
+    let blocks = shapes.random.below(6);
+    in_so_many_blocks(shapes, statement, blocks)
+}
+
+fn in_so_many_blocks(
+    shapes: &mut Shapes<impl Fill>,
+    statement: Tree,
+    blocks: usize,
+) -> Tree {
     let mut body = block(statement);
     for _ in 0..blocks {
         let condition = shapes.of_kind(56, Place::Expr, 20);
@@ -127,17 +149,22 @@ impl Fill for Plain {
     }
 }
 
-fn count_names(tree: &Tree) -> usize {
+pub(super) fn count_names(tree: &Tree) -> usize {
     let below = tree.children.iter().flatten().map(count_names);
     usize::from(tree.kind == 2) + below.sum::<usize>()
 }
 
 /// Gives the name with this place in reading order its mark and length.
 fn rename(tree: &mut Tree, marked: usize, length: usize) {
+    put_name(tree, marked, &text(0..0, length, &MARK.repeat(length)));
+}
+
+/// Puts a text in the place of the name with this place in reading order.
+pub(super) fn put_name(tree: &mut Tree, marked: usize, name: &Tree) {
     let mut place = 0;
     visit_names(tree, &mut |record| {
         if place == marked {
-            *record = text(0..0, length, &MARK.repeat(length));
+            record.clone_from(name);
         }
         place += 1;
     });

@@ -51,6 +51,12 @@ pub fn draft(random: &mut Random) -> Draft {
     with_foot(random, draft)
 }
 
+/// Comments behind a draft that is made so.
+pub fn of(random: &mut Random, make: fn(&mut Random) -> Draft) -> Draft {
+    let draft = make(random);
+    with_foot(random, draft)
+}
+
 /// One without declarations.
 pub fn bare_draft(random: &mut Random) -> Draft {
     let draft = bare(random);

@@ -13,6 +13,7 @@ use crate::{
     random::Random,
     reader::MOST_SOURCE,
     rows::Row,
+    rule::SUPPLIED,
     width::REFERENCE,
 };
 
@@ -83,11 +84,12 @@ fn width(random: &mut Random) -> usize {
     }
 }
 
-/// Width and mode of a list.
-fn choice(random: &mut Random) -> Choice {
+/// Width and mode of a list; its widths are supplied.
+pub(super) fn choice(random: &mut Random) -> Choice {
     Choice {
         width: width(random),
         mode: modes::legal(random),
+        rule: SUPPLIED,
     }
 }
 
@@ -123,7 +125,12 @@ fn list(random: &mut Random) -> CallCase {
     listed(random, draft, choice)
 }
 
-fn listed(random: &mut Random, draft: Draft, choice: Choice) -> CallCase {
+/// Such calls on a file.
+pub(super) fn listed(
+    random: &mut Random,
+    draft: Draft,
+    choice: Choice,
+) -> CallCase {
     let image = draft.image();
     let Some(run) = formatted(&draft, &image, choice) else {
         return unreadable(random);
@@ -133,9 +140,9 @@ fn listed(random: &mut Random, draft: Draft, choice: Choice) -> CallCase {
     let mut laid = 0;
     for _ in 0..random.between(1, 9) {
         calls.push(if random.once_in(2) {
-            layout(random, &run, &mut laid, choice.mode)
+            layout(random, &run, &mut laid, choice)
         } else {
-            rendering(random, &run, laid, choice.width)
+            rendering(random, &run, laid, choice)
         });
     }
     CallCase {
@@ -157,7 +164,8 @@ fn every_declaration(random: &mut Random) -> CallCase {
     at_every_declaration(random, draft, choice)
 }
 
-fn at_every_declaration(
+/// The same on a file.
+pub(super) fn at_every_declaration(
     random: &mut Random,
     draft: Draft,
     choice: Choice,
@@ -181,36 +189,32 @@ fn at_every_declaration(
 
 /// Calls that stop at each declaration in turn.
 fn through(random: &mut Random, run: &Run, choice: Choice) -> Vec<Call> {
-    let Choice { width, mode } = choice;
+    let Choice { width, mode, rule } = choice;
+    let layout = |stop, close| Call::Layout {
+        stop,
+        close,
+        mode,
+        rule,
+    };
+    let render = |stop, room| Call::Render {
+        stop,
+        room,
+        width,
+        rule,
+    };
     let last = run.stops.len() - 1;
     let mut calls = Vec::new();
     for (place, stop) in run.stops.iter().enumerate() {
-        calls.push(Call::Layout {
-            stop: place,
-            close: false,
-            mode,
-        });
+        calls.push(layout(place, false));
         calls.extend(refused_at(random, run, place, choice));
         // Rendering may lag behind, and is level again at the last.
         if place == last || !random.once_in(3) {
-            calls.push(Call::Render {
-                stop: stop.next_row,
-                room: 1 << 16,
-                width,
-            });
+            calls.push(render(stop.next_row, 1 << 16));
         }
     }
-    calls.push(Call::Layout {
-        stop: last,
-        close: true,
-        mode,
-    });
+    calls.push(layout(last, true));
     calls.extend(refused_at(random, run, last, choice));
-    calls.push(Call::Render {
-        stop: run.rows.len(),
-        room: run.text.len(),
-        width,
-    });
+    calls.push(render(run.rows.len(), run.text.len()));
     calls
 }
 
@@ -226,53 +230,46 @@ fn refused_at(
     place: usize,
     choice: Choice,
 ) -> Option<Call> {
-    let Choice { width, mode } = choice;
+    let Choice { width, mode, rule } = choice;
     let last = run.stops.len() - 1;
-    let layout = |stop, close| Some(Call::Layout { stop, close, mode });
-    match random.below(14) {
-        0 => layout(last + 1, false),
-        1 => layout(place.saturating_sub(1), false),
-        2 => layout(place, place < last),
-        3 => Some(Call::Render {
-            stop: run.rows.len() + 2,
-            room: 1 << 16,
-            width,
-        }),
-        4 => Some(Call::Render {
-            stop: run.stops[place].next_row,
-            room: 0,
-            width,
-        }),
-        5 => Some(Call::Render {
-            stop: run.stops[place].next_row,
-            room: 1 << 16,
-            width: *random.pick(&widths::ILLEGAL),
-        }),
+    let here = run.stops[place].next_row;
+    let layout = |stop, close, mode| Call::Layout {
+        stop,
+        close,
+        mode,
+        rule,
+    };
+    let render = |stop, room, width| Call::Render {
+        stop,
+        room,
+        width,
+        rule,
+    };
+    let refused = match random.below(14) {
+        0 => layout(last + 1, false, mode),
+        1 => layout(place.saturating_sub(1), false, mode),
+        2 => layout(place, place < last, mode),
+        3 => render(run.rows.len() + 2, 1 << 16, width),
+        4 => render(here, 0, width),
+        5 => render(here, 1 << 16, *random.pick(&widths::ILLEGAL)),
         // No other width once one is chosen; at the first stop none is.
-        6 if place > 0 => Some(Call::Render {
-            stop: run.stops[place].next_row,
-            room: 0,
-            width: widths::legal(random),
-        }),
-        7 | 8 => Some(Call::Layout {
-            stop: random.between(place, last),
-            close: place == last && random.once_in(2),
-            mode: modes::other(mode),
-        }),
-        9 => Some(Call::Layout {
-            stop: place,
-            close: false,
-            mode: *random.pick(&modes::ILLEGAL),
-        }),
-        _ => None,
-    }
+        6 if place > 0 => render(here, 0, widths::legal(random)),
+        7 | 8 => {
+            let stop = random.between(place, last);
+            let close = place == last && random.once_in(2);
+            layout(stop, close, modes::other(mode))
+        }
+        9 => layout(place, false, *random.pick(&modes::ILLEGAL)),
+        _ => return None,
+    };
+    Some(refused)
 }
 
 fn layout(
     random: &mut Random,
     run: &Run,
     laid: &mut usize,
-    mode: usize,
+    choice: Choice,
 ) -> Call {
     let declarations = run.stops.len() - 1;
     let stop = match random.below(8) {
@@ -286,15 +283,19 @@ fn layout(
         random.once_in(10)
     };
     *laid = stop;
-    let mode = modes::chosen(random, mode);
-    Call::Layout { stop, close, mode }
+    Call::Layout {
+        stop,
+        close,
+        mode: modes::chosen(random, choice.mode),
+        rule: choice.rule,
+    }
 }
 
 fn rendering(
     random: &mut Random,
     run: &Run,
     laid: usize,
-    width: usize,
+    choice: Choice,
 ) -> Call {
     let last = run.rows.len();
     let declaration = random.between(0, laid.min(run.stops.len() - 1));
@@ -308,12 +309,16 @@ fn rendering(
         1 => run.text.len(),
         _ => 1 << 16,
     };
-    let width = widths::chosen(random, width);
-    Call::Render { stop, room, width }
+    Call::Render {
+        stop,
+        room,
+        width: widths::chosen(random, choice.width),
+        rule: choice.rule,
+    }
 }
 
 /// A source or an image that the reader turns down.
-fn unreadable(random: &mut Random) -> CallCase {
+pub(super) fn unreadable(random: &mut Random) -> CallCase {
     let bytes = damaged::frame(random);
     let empty = Frame {
         source: b"",
@@ -333,18 +338,20 @@ fn unreadable(random: &mut Random) -> CallCase {
                 stop: 0,
                 close: random.once_in(2),
                 mode: modes::chosen(random, OLD),
+                rule: SUPPLIED,
             },
             Call::Render {
                 stop: 0,
                 room: 10,
                 width: widths::chosen(random, REFERENCE),
+                rule: SUPPLIED,
             },
         ],
     }
 }
 
 /// One layout call from a state that no call need have answered.
-fn one_layout(random: &mut Random) -> CallCase {
+pub(super) fn one_layout(random: &mut Random) -> CallCase {
     let draft = draft(random, REFERENCE);
     let image = draft.image();
     let mode = modes::legal(random);
@@ -375,6 +382,7 @@ fn one_layout(random: &mut Random) -> CallCase {
             stop,
             close,
             mode: modes::chosen(random, mode),
+            rule: SUPPLIED,
         }],
     }
 }
@@ -387,8 +395,9 @@ fn layout_state(
 ) -> LayoutState {
     let rows = world.room_for_rows();
     let past = usize::from(random.once_in(12));
+    let begun = !random.once_in(8);
     let state = LayoutState {
-        begun: !random.once_in(8),
+        begun,
         closed: random.once_in(12),
         next_declaration: random.between(0, run.stops.len() - 1 + past),
         at: Stop {
@@ -398,6 +407,7 @@ fn layout_state(
             position: random.between(0, draft.source.len() + past),
         },
         mode: 0,
+        rule: if begun { SUPPLIED } else { 0 },
     };
     if random.once_in(12) {
         LayoutState::default()
@@ -422,6 +432,17 @@ fn one_rendering(random: &mut Random) -> CallCase {
             }
         }
     }
+    on_rows(random, source, image, &rows, from)
+}
+
+/// A rendering call on these rows, from one of them, from a state of any kind.
+pub(super) fn on_rows(
+    random: &mut Random,
+    source: Vec<u8>,
+    image: Vec<u8>,
+    rows: &[Row],
+    from: usize,
+) -> CallCase {
     let mut world = world(random, rows.len(), 12);
     let fitting = world.room_for_rows().min(rows.len());
     world.put_rows(0, &rows[..fitting]);
@@ -440,6 +461,7 @@ fn one_rendering(random: &mut Random) -> CallCase {
             stop,
             room,
             width: widths::chosen(random, width),
+            rule: SUPPLIED,
         }],
     }
 }
@@ -470,5 +492,6 @@ fn render_state(
             0 => 0,
             _ => widths::chosen(random, width),
         },
+        rule: 0,
     }
 }

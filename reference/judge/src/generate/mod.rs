@@ -2,6 +2,7 @@
 
 mod batch_cases;
 mod batches;
+mod broad;
 mod damaged;
 mod edges;
 mod feet;
@@ -12,6 +13,8 @@ mod ranges;
 mod realistic;
 mod rendering;
 mod report_inputs;
+mod rule_cases;
+mod rules;
 mod shape;
 mod sizes;
 mod step_lists;
@@ -29,6 +32,7 @@ use crate::{
 
 pub use batch_cases::{Case as FixedBatch, cases as fixed_batches};
 pub use batches::{Case as BatchCase, case as batch_case};
+pub use broad::frame as broad_frame;
 pub use feet::frame as foot_frame;
 pub use lists::{
     CallCase, case as call_case, cut_case, foot_case, unreadable_case,
@@ -36,6 +40,8 @@ pub use lists::{
 pub use ranges::{RangeCase, case as range_case};
 pub use rendering::cases as rendering_cases;
 pub use report_inputs::input as report_input;
+pub use rule_cases::{cases as rule_cases, every_text};
+pub use rules::case as rule_case;
 pub use sizes::{
     Case as SizeCase, call_cases as size_call_cases, cases as size_cases,
 };

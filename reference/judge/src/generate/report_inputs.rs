@@ -4,11 +4,11 @@
 
 use super::batches::{damage, file, short};
 use crate::{
+    choice::Choice,
     figures::MOST_FILES,
     frame::{Frame, framed},
     random::Random,
     reader::{MOST_BODY, MOST_SOURCE},
-    width::REFERENCE,
 };
 
 const RANDOM: u64 = 93;
@@ -50,7 +50,7 @@ fn any(random: &mut Random) -> Vec<u8> {
         0 => over_source(random),
         1 => over_image(random),
         2..12 => short(random),
-        _ => file(random, REFERENCE),
+        _ => file(random, Choice::REFERENCE),
     }
 }
 

@@ -11,7 +11,7 @@ use crate::{
     program::{self, Widths},
     reader,
     rows::Row,
-    width,
+    rule, width,
 };
 
 /// Source and image apart, since some are too large for the program's frame.
@@ -51,11 +51,13 @@ impl Case {
             stop: declarations,
             close: true,
             mode: mode::OLD,
+            rule: rule::SUPPLIED,
         };
         let rendering = Call::Render {
             stop: rows,
             room: program::OUTPUT,
             width: width::REFERENCE,
+            rule: rule::SUPPLIED,
         };
         CallCase {
             source: self.source.clone(),

@@ -11,7 +11,7 @@ use crate::{
 const ACCEPTED: &str = "accepted";
 
 /// Numbers that refuse a file, in their order.
-const NUMBERS: [u32; 11] = [1, 2, 3, 4, 5, 6, 7, 12, 15, 8, 9];
+const NUMBERS: [u32; 12] = [20, 1, 2, 3, 4, 5, 6, 7, 12, 15, 8, 9];
 const NO_NINE: &str = " (unreachable: rows are never fewer than group \
     numbers, and 8 is tested first)";
 const LONG_SOURCE: &str = " (unreachable: its source is over 60 KB)";

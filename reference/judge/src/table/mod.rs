@@ -53,8 +53,10 @@ pub fn table(seed: u64, count: u64) -> String {
     }
     for index in 0..count {
         all.add_calls(&generate::call_case(seed, index));
+        all.add_calls(&generate::rule_case(seed, index));
     }
-    writeln!(out, "- lists of calls: {count}").unwrap();
+    writeln!(out, "- lists of calls: {count}, and as many with rules")
+        .unwrap();
     let mut lists = StepCounts::default();
     for case in generate::step_size_cases() {
         lists.add(&case.list);

@@ -3,9 +3,8 @@
 #![allow(dead_code)]
 
 use judge::{
-    driver::{Pen, RenderedRows, Texts, render_rows},
+    driver::{Page, Pen, RenderedRows, Texts, render_rows},
     rows::{self, Row},
-    width::REFERENCE,
 };
 
 pub enum N {
@@ -16,6 +15,8 @@ pub enum N {
     Ascii(&'static str),
     /// So many bytes of `x`.
     Wide(usize),
+    /// An `Ascii` of any text.
+    Text(String),
     Line,
     EmptyLine,
     LineOrSpace,
@@ -24,11 +25,20 @@ pub enum N {
 
 /// Renders nodes from a state, and no marks.
 pub fn render(nodes: &[N], pen: Pen) -> RenderedRows {
-    render_at(nodes, pen, REFERENCE)
+    render_on(nodes, pen, Page::REFERENCE)
 }
 
 /// The same with a width.
 pub fn render_at(nodes: &[N], pen: Pen, width: usize) -> RenderedRows {
+    let page = Page {
+        width,
+        ..Page::REFERENCE
+    };
+    render_on(nodes, pen, page)
+}
+
+/// The same with a width and a rule.
+pub fn render_on(nodes: &[N], pen: Pen, page: Page) -> RenderedRows {
     let mut source = String::new();
     let mut rows = Vec::new();
     put(&mut source, &mut rows, nodes);
@@ -37,7 +47,7 @@ pub fn render_at(nodes: &[N], pen: Pen, width: usize) -> RenderedRows {
         image: b"",
         words: b"",
     };
-    render_rows(texts, &rows, 0, pen, &[], width)
+    render_rows(texts, &rows, 0, pen, &[], page)
 }
 
 /// The text of nodes rendered from fresh.
@@ -89,6 +99,7 @@ fn put(source: &mut String, rows: &mut Vec<Row>, nodes: &[N]) {
             N::Wide(count) => {
                 with_text(source, rows::ASCII, &"x".repeat(*count))
             }
+            N::Text(text) => with_text(source, rows::ASCII, text),
             N::Line => of_kind(rows::LINE),
             N::EmptyLine => of_kind(rows::EMPTY_LINE),
             N::LineOrSpace => of_kind(rows::LINE_OR_SPACE),

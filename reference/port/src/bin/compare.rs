@@ -6,7 +6,7 @@ use port::compare::{Item, Plan, Tally, one};
 
 const USAGE: &str = "\
 usage: compare SEED FRAMES [LISTS [FILES [STEPS [BATCHES [REPORTS]]]]]
-           FRAMES frames of each class, with widths and with comments at the foot, LISTS lists of calls of each sort,
+           FRAMES frames of each class, with widths, with comments at the foot and with wide characters, LISTS lists of calls of each sort,
            FILES files counted, STEPS images to steps and back, and as many lists of steps, BATCHES batches,
            REPORTS inputs of the program report
        compare KIND SEED INDEX
@@ -51,8 +51,8 @@ fn compare(words: &[&str]) -> Option<Tally> {
             reports: more(4),
         };
         println!(
-            "{} frames of each class, with widths and with comments at the \
-             foot, {} lists of each sort, {} files counted, {} images to \
+            "{} frames of each class, with widths, with comments at the \
+             foot and with wide characters, {} lists of each sort, {} files counted, {} images to \
              steps and back, {} lists of steps, {} batches, {} reports",
             plan.frames,
             plan.lists,

@@ -10,9 +10,10 @@ fn main() -> ExitCode {
         eprintln!("inputs FOLDER");
         return ExitCode::from(2);
     };
-    for (number, input) in inputs::all().iter().enumerate() {
+    let all = inputs::all().into_iter().chain([inputs::japanese()]);
+    for (number, input) in all.enumerate() {
         let path = Path::new(&folder).join(number.to_string());
-        fs::write(path, bytes(input)).expect("the file is written");
+        fs::write(path, bytes(&input)).expect("the file is written");
         println!("{}", input.name);
     }
     ExitCode::SUCCESS

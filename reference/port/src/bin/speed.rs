@@ -23,10 +23,29 @@ fn main() -> ExitCode {
         lines.extend(batches::of_files(&inputs::saves()));
         let documents = documents::growing();
         lines.extend(documents.into_iter().map(steps::rendering));
+        lines.extend(by_rules());
     }
     print!("{}", measure::table(&lines));
     write(paths.first(), &measure::csv(&lines));
     stack(paths.get(1))
+}
+
+/// All inputs by editions of Unicode, and one of wide characters.
+#[cfg(all(feature = "calls", not(feature = "stand-in")))]
+fn by_rules() -> Vec<Line> {
+    let all = inputs::all();
+    let mut lines: Vec<_> = all
+        .iter()
+        .flat_map(|input| steps::by_rules(input, false))
+        .collect();
+    lines.extend(steps::by_rules(&inputs::japanese(), true));
+    lines
+}
+
+/// The judge as it is built for timing has no rules.
+#[cfg(all(feature = "calls", feature = "stand-in"))]
+fn by_rules() -> Vec<Line> {
+    Vec::new()
 }
 
 fn write(path: Option<&String>, text: &str) {

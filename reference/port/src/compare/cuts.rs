@@ -1,17 +1,18 @@
 //! A file laid out with a stop before each declaration, then rendered with a
 //! stop at the same rows; and the whole run with the program's sizes. All of
-//! it in both modes.
+//! it in both modes, and by each rule.
 
 use judge::{
     calls::{Answer, Given, LayoutState, RenderState},
     choice::Choice,
     contents::{Contents, Place},
-    driver::{Run, Shown},
+    driver::{Page, Run, Shown},
     frame::Frame,
     mode::{NEW, OLD},
     program::{self, OUTPUT, Widths},
     refusal::{Refusal, refusal},
     rows::{self, Row},
+    rule::{LEGAL, SUPPLIED, UNICODE_15_1, UNICODE_16_0},
 };
 
 use super::{
@@ -28,12 +29,22 @@ pub fn compare(tally: &mut Tally, class: &str, frame: Frame, width: usize) {
         given: Given { source, image },
         contents: texts::contents(frame),
     };
-    for mode in [OLD, NEW] {
-        let choice = Choice { width, mode };
+    for (mode, rule) in ways(image) {
+        let choice = Choice { width, mode, rule };
         let run = program::format_as(frame, Widths::Supplied, choice);
         compare_as(tally, class, &file, choice, run);
     }
     compare_illegal(tally, &file, frame);
+}
+
+/// Modes with rules: supplied widths in both modes, and Unicode's two editions
+/// in one each, which is another for images of an odd length.
+fn ways(image: &[u8]) -> [(usize, usize); 4] {
+    let [mut one, mut other] = [UNICODE_15_1, UNICODE_16_0];
+    if image.len() % 2 == 1 {
+        (one, other) = (other, one);
+    }
+    [(OLD, SUPPLIED), (NEW, SUPPLIED), (OLD, one), (NEW, other)]
 }
 
 /// A file, and what it says, if the reader accepts it.
@@ -58,14 +69,18 @@ fn compare_as(
         })
     });
     let number = due.err().map_or(0, |refusal| refusal.number);
-    let way = if choice.mode == OLD { "" } else { ", mode 1" };
-    tally.count(&format!("whole run, {class}{way}"), number);
+    let mode = if choice.mode == OLD { "" } else { ", mode 1" };
+    let rule = match choice.rule {
+        SUPPLIED => String::new(),
+        rule => format!(", rule {rule}"),
+    };
+    tally.count(&format!("whole run, {class}{mode}{rule}"), number);
     compare_whole(tally, file, choice, run.as_ref().ok(), due);
     match run {
         // A layout call has no width.
         Err(Refusal { number: 15, .. }) => {}
         Err(refusal) => {
-            compare_refused(tally, file.given, choice.mode, refusal);
+            compare_refused(tally, file.given, choice, refusal);
         }
         Ok(run) => compare_pieces(tally, file, choice, &run),
     }
@@ -109,16 +124,21 @@ fn compare_whole(
         && tally.expect_bytes("the whole run's output", &due_output, &output);
 }
 
-/// The whole run with a width or a mode that can't be chosen: 12, then 15,
-/// also where there are too many rows.
+/// The whole run with a width, a mode or a rule that can't be chosen: 20 before
+/// the file's own refusals, 12, then 15, also where there are too many rows.
 fn compare_illegal(tally: &mut Tally, file: &File, frame: Frame) {
     const NARROW: usize = 39;
-    let choice = |width, mode| Choice { width, mode };
+    let choice = |width, mode, rule| Choice { width, mode, rule };
     for choice in [
-        choice(NARROW, OLD),
-        choice(NARROW, NEW),
-        choice(80, 2),
-        choice(NARROW, usize::MAX),
+        choice(NARROW, OLD, UNICODE_16_0),
+        choice(NARROW, NEW, SUPPLIED),
+        choice(80, 2, SUPPLIED),
+        choice(NARROW, usize::MAX, UNICODE_15_1),
+        choice(80, OLD, 0),
+        choice(80, NEW, 4),
+        choice(NARROW, 2, 1 << 32),
+        choice(80, OLD, (1 << 32) + 2),
+        choice(80, OLD, usize::MAX),
     ] {
         let run = program::format_as(frame, Widths::Supplied, choice);
         let due = Err(run.expect_err("a choice that isn't legal"));
@@ -130,13 +150,14 @@ fn compare_illegal(tally: &mut Tally, file: &File, frame: Frame) {
 fn compare_refused(
     tally: &mut Tally,
     given: Given,
-    mode: usize,
+    choice: Choice,
     refusal: Refusal,
 ) {
+    let chosen = [choice.mode, choice.rule];
     let mut store = junk_cells(20);
     let due_store = store.clone();
     let fresh = LayoutState::default();
-    let got = crate::layout(given, &mut store, &fresh, 0, false, mode);
+    let got = crate::layout(given, &mut store, &fresh, 0, false, chosen);
     let _ = tally.expect("a refused layout", &Err(refusal), &got)
         && expect_store(tally, "a refused layout", &due_store, &store);
 }
@@ -174,11 +195,13 @@ impl Cut<'_> {
                 next_declaration: place,
                 at: *stop,
                 mode: self.choice.mode,
+                rule: self.choice.rule,
             };
             let rows = &self.run.rows[from..stop.next_row];
             put_rows(&mut due_store, from, rows);
             self.lay_out(&mut state, due, &due_store)?;
             self.other_mode(&state)?;
+            self.other_rule(&state)?;
         }
         self.one_row_short(&state)?;
         // The final `Line`, and in the new mode what waited.
@@ -211,7 +234,7 @@ impl Cut<'_> {
             state,
             due.next_declaration,
             due.closed,
-            self.choice.mode,
+            [self.choice.mode, self.choice.rule],
         );
         *state = due;
         let right = self.tally.expect(&what, &Ok(answer), &got)
@@ -225,8 +248,8 @@ impl Cut<'_> {
         let before = self.store.clone();
         let room = &mut self.store[..rows * Row::CELLS - 1];
         let stop = state.next_declaration;
-        let mode = self.choice.mode;
-        let got = crate::layout(self.given, room, state, stop, true, mode);
+        let chosen = [self.choice.mode, self.choice.rule];
+        let got = crate::layout(self.given, room, state, stop, true, chosen);
         let what = "layout one row short";
         let due = Err(refusal(8, rows));
         let right = self.tally.expect(what, &due, &got)
@@ -240,13 +263,33 @@ impl Cut<'_> {
         let others = [1 - self.choice.mode, 2, 1 << 32, usize::MAX];
         let stop = state.next_declaration;
         let other = others[stop % others.len()];
+        self.refused_layout(state, [other, self.choice.rule], 12)
+    }
+
+    /// Another rule than the carried one: 12, or 20 where it isn't legal, and
+    /// no cell is changed.
+    fn other_rule(&mut self, state: &LayoutState) -> Option<()> {
+        let stop = state.next_declaration;
+        let (other, number) = other_rule(self.choice.rule, stop);
+        self.refused_layout(state, [self.choice.mode, other], number)
+    }
+
+    /// A layout call that lays nothing, closes at the end, and is refused for
+    /// its mode or its rule.
+    fn refused_layout(
+        &mut self,
+        state: &LayoutState,
+        chosen: [usize; 2],
+        number: u8,
+    ) -> Option<()> {
+        let stop = state.next_declaration;
         let close = stop + 1 == self.run.stops.len();
         let before = self.store.clone();
         let (given, store) = (self.given, &mut self.store);
-        let got = crate::layout(given, store, state, stop, close, other);
-        let what = "layout in another mode";
-        let right = self.tally.expect(what, &Err(refusal(12, 0)), &got)
-            && expect_store(self.tally, what, &before, &self.store);
+        let got = crate::layout(given, store, state, stop, close, chosen);
+        let what = format!("layout by mode and rule {chosen:?}");
+        let right = self.tally.expect(&what, &Err(refusal(number, 0)), &got)
+            && expect_store(self.tally, &what, &before, &self.store);
         right.then_some(())
     }
 
@@ -275,6 +318,7 @@ impl Cut<'_> {
             self.one_byte_short(&state, &part)?;
             self.render(&mut state, &part)?;
             self.other_width(&state, stop)?;
+            self.other_page(&state, stop)?;
             from = (place, shown.bytes);
         }
         Some(())
@@ -295,6 +339,7 @@ impl Cut<'_> {
             marks_in_use: shown.marks.len(),
             next_row: stop,
             width: self.choice.width,
+            rule: self.choice.rule,
         };
         let answer = Answer::Written {
             state: after,
@@ -348,13 +393,39 @@ impl Cut<'_> {
         if other == width {
             return Some(());
         }
+        let page = Page {
+            width: other,
+            ..self.page()
+        };
+        self.refused_page(state, stop, page, 15)
+    }
+
+    /// Another rule than the carried one: 12, or 20 where it isn't legal, and
+    /// nothing is changed.
+    fn other_page(&mut self, state: &RenderState, stop: usize) -> Option<()> {
+        let (rule, number) = other_rule(self.choice.rule, stop);
+        let page = Page {
+            rule,
+            ..self.page()
+        };
+        self.refused_page(state, stop, page, number)
+    }
+
+    /// A rendering call that reads nothing and is refused for its page.
+    fn refused_page(
+        &mut self,
+        state: &RenderState,
+        stop: usize,
+        page: Page,
+        number: u8,
+    ) -> Option<()> {
         let mut output = junk_bytes(9);
         let [due_output, due_marks] = [output.clone(), self.marks.clone()];
-        let got = self.call_at(other, state, stop, &mut output);
-        let what = "rendering with another width";
-        let right = self.tally.expect(what, &Err(refusal(15, 0)), &got)
-            && self.tally.expect_bytes(what, &due_marks, &self.marks)
-            && self.tally.expect_bytes(what, &due_output, &output);
+        let got = self.call_on(page, state, stop, &mut output);
+        let what = format!("rendering on {page:?}");
+        let right = self.tally.expect(&what, &Err(refusal(number, 0)), &got)
+            && self.tally.expect_bytes(&what, &due_marks, &self.marks)
+            && self.tally.expect_bytes(&what, &due_output, &output);
         right.then_some(())
     }
 
@@ -366,6 +437,7 @@ impl Cut<'_> {
         }
         let before = self.marks.clone();
         let rows = self.run.rows.len();
+        let page = self.page();
         let got = crate::render(
             self.given,
             &mut self.store,
@@ -373,7 +445,7 @@ impl Cut<'_> {
             &mut [],
             &RenderState::default(),
             rows,
-            self.choice.width,
+            page,
         );
         let what = "rendering one mark short";
         let due = Err(refusal(9, needed));
@@ -389,12 +461,17 @@ impl Cut<'_> {
         stop: usize,
         output: &mut [u8],
     ) -> Result<Answer, Refusal> {
-        self.call_at(self.choice.width, state, stop, output)
+        self.call_on(self.page(), state, stop, output)
     }
 
-    fn call_at(
+    fn page(&self) -> Page {
+        let Choice { width, rule, .. } = self.choice;
+        Page { width, rule }
+    }
+
+    fn call_on(
         &mut self,
-        width: usize,
+        page: Page,
         state: &RenderState,
         stop: usize,
         output: &mut [u8],
@@ -407,12 +484,27 @@ impl Cut<'_> {
             output,
             state,
             stop,
-            width,
+            page,
         );
         let what = "the store after rendering";
         expect_store(self.tally, what, &before, &self.store);
         answer
     }
+}
+
+/// A rule that isn't this legal one, by turns, and what refuses it where this
+/// one is carried.
+fn other_rule(rule: usize, turn: usize) -> (usize, u8) {
+    let others = [
+        1 + rule % 3,
+        0,
+        1 + (rule + 1) % 3,
+        4,
+        (1 << 32) + rule,
+        usize::MAX,
+    ];
+    let other = others[turn % others.len()];
+    (other, if LEGAL.contains(&other) { 12 } else { 20 })
 }
 
 fn put_rows(store: &mut [u32], at: usize, rows: &[Row]) {

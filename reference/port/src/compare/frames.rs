@@ -10,8 +10,8 @@ use judge::{
 use super::Tally;
 use crate::Accepted;
 
-/// Compares all that the port makes of a frame, with a width and in both
-/// modes.
+/// Compares all that the port makes of a frame, with a width, in both modes
+/// and by each rule.
 pub fn compare(tally: &mut Tally, class: &str, bytes: &[u8], width: usize) {
     match frame::split_any_size(bytes) {
         Ok(frame) => compare_parts(tally, class, frame, width),

@@ -7,17 +7,19 @@ use judge::{
     image::{self, node},
     mode::OLD,
     rows::{self, Row},
+    rule::{SUPPLIED, UNICODE_16_0},
     width::REFERENCE,
 };
 
-pub const COUNT: usize = 5;
+pub const COUNT: usize = 6;
 
 /// Calls on the largest store and on one row more, by place under [`COUNT`].
 pub fn numbered(place: usize) -> CallCase {
-    let render = |stop| Call::Render {
+    let render = |stop, rule| Call::Render {
         stop,
         room: 1 << 22,
         width: REFERENCE,
+        rule,
     };
     let laying = |next_row| LayoutState {
         begun: true,
@@ -31,13 +33,15 @@ pub fn numbered(place: usize) -> CallCase {
         stop: 0,
         close: true,
         mode: OLD,
+        rule: SUPPLIED,
     };
     let fresh = LayoutState::default();
     match place {
-        0 => case(flat(), fresh, render(MOST_ROWS)),
-        1 => case(flat(), fresh, render(MOST_ROWS + 1)),
-        2 => case(nested(), fresh, render(MOST_ROWS)),
+        0 => case(flat(), fresh, render(MOST_ROWS, SUPPLIED)),
+        1 => case(flat(), fresh, render(MOST_ROWS + 1, SUPPLIED)),
+        2 => case(nested(), fresh, render(MOST_ROWS, SUPPLIED)),
         3 => case(flat(), laying(MOST_ROWS), close),
+        4 => case(nested(), fresh, render(MOST_ROWS, UNICODE_16_0)),
         _ => case(flat(), laying(MOST_ROWS + 1), close),
     }
 }

@@ -3,11 +3,13 @@
 use judge::{
     calls::{self, Answer, Call, Given, LayoutState, RenderState, World},
     contents::{Contents, Place},
+    driver::Page,
     frame::Frame,
     generate::CallCase,
     mode::NEW,
     random::Random,
     refusal::Refusal,
+    rule::SUPPLIED,
     width::REFERENCE,
 };
 
@@ -70,13 +72,20 @@ impl<'l> List<'l> {
             laying, rendering, ..
         } = &self.due;
         let stop = laying.at.next_row;
-        let width = match rendering.width {
-            0 => REFERENCE,
+        let chosen = |carried, otherwise| match carried {
+            0 => otherwise,
             carried => carried,
         };
+        let width = chosen(rendering.width, REFERENCE);
+        let rule = chosen(rendering.rule, SUPPLIED);
         let left = self.contents.is_some() && rendering.next_row < stop;
         left.then(|| {
-            let one = |room| Call::Render { stop, room, width };
+            let one = |room| Call::Render {
+                stop,
+                room,
+                width,
+                rule,
+            };
             let mut world = self.due.clone();
             match calls::call(self.given, &mut world, one(usize::MAX)) {
                 Ok(Answer::Written { bytes, .. }) => one(bytes),
@@ -189,12 +198,20 @@ fn port_call(
 ) -> Result<Answer, Refusal> {
     let World { store, marks, .. } = world;
     match one {
-        Call::Layout { stop, close, mode } => {
-            crate::layout(given, store, &world.laying, stop, close, mode)
+        Call::Layout {
+            stop,
+            close,
+            mode,
+            rule,
+        } => {
+            let chosen = [mode, rule];
+            crate::layout(given, store, &world.laying, stop, close, chosen)
         }
-        Call::Render { stop, width, .. } => {
-            let state = &world.rendering;
-            crate::render(given, store, marks, output, state, stop, width)
+        Call::Render {
+            stop, width, rule, ..
+        } => {
+            let (state, page) = (&world.rendering, Page { width, rule });
+            crate::render(given, store, marks, output, state, stop, page)
         }
     }
 }
@@ -216,7 +233,7 @@ pub fn stretched(case: &CallCase, seed: u64, index: u64) -> CallCase {
     let random = &mut Random::new(101, seed, index);
     let mut case = case.clone();
     let far = *random.pick(&FAR);
-    let chosen = random.below(16);
+    let chosen = random.below(20);
     let which = random.below(case.calls.len());
     let laying = &mut case.world.laying;
     let rendering = &mut case.world.rendering;
@@ -248,6 +265,20 @@ pub fn stretched(case: &CallCase, seed: u64, index: u64) -> CallCase {
             for call in &mut case.calls[which..] {
                 if let Call::Layout { mode, .. } = call {
                     *mode = far;
+                }
+            }
+        }
+        14 => {
+            laying.begun |= index.is_multiple_of(2);
+            laying.rule = far;
+        }
+        15 => rendering.rule = far,
+        16 => {
+            for call in &mut case.calls[which..] {
+                match call {
+                    Call::Layout { rule, .. } | Call::Render { rule, .. } => {
+                        *rule = far;
+                    }
                 }
             }
         }

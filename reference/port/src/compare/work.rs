@@ -26,6 +26,8 @@ pub enum Item {
     Wide(u64),
     /// A file with comments after its last declaration.
     Foot(u64),
+    /// A file with characters of two columns, or none.
+    Broad(u64),
     /// A size of document 01, without the frame's limit.
     Size(usize),
     #[cfg(feature = "calls")]
@@ -36,6 +38,21 @@ pub enum Item {
     /// A list with a number far out.
     #[cfg(feature = "calls")]
     Stretched(u64),
+    /// A list with rules of widths.
+    #[cfg(feature = "calls")]
+    RuleList(u64),
+    /// The same with a number far out.
+    #[cfg(feature = "calls")]
+    StretchedRules(u64),
+    /// A case of the fixed list of calls with rules.
+    #[cfg(feature = "calls")]
+    Rules(usize),
+    /// A text of few bytes, whole or not, to be rendered by a rule.
+    #[cfg(feature = "calls")]
+    Text(usize),
+    /// A part of all code points.
+    #[cfg(feature = "calls")]
+    Points(usize),
     #[cfg(feature = "calls")]
     Large(usize),
     /// A size of document 01 as calls.
@@ -71,12 +88,13 @@ pub enum Item {
 }
 
 /// All items of a run: so many frames of each class but `sizes`, as many
-/// with widths of their own, with comments after the last declaration, and
-/// as many texts with ranges, all sizes and rendering answers once, and so
-/// many lists, as many of them on files with such comments. With lists come
-/// the largest stores. Last, so many files to count, so many images to steps
-/// and back with as many lists of steps, so many batches, with which comes their
-/// fixed list, and so many inputs of the program `report`.
+/// with widths of their own, with comments after the last declaration, with
+/// characters of two columns, and as many texts with ranges, all sizes,
+/// rendering answers and calls with rules once, and so many lists, as many of
+/// them on files with such comments and with rules. With lists come the
+/// largest stores and all code points. Last, so many files to count, so many
+/// images to steps and back with as many lists of steps, so many batches, with
+/// which comes their fixed list, and so many inputs of the program `report`.
 #[derive(Clone, Copy, Debug)]
 pub struct Plan {
     pub seed: u64,
@@ -106,6 +124,7 @@ impl Plan {
         #[cfg(feature = "calls")]
         if self.lists > 0 {
             items.extend((0..super::large::COUNT).map(Item::Large));
+            items.extend((0..super::points::PARTS).map(Item::Points));
         }
         let sizes = generate::size_cases().len();
         items.extend((0..sizes).map(Item::Size));
@@ -114,17 +133,26 @@ impl Plan {
             items.extend((0..sizes).map(Item::SizeCalls));
             let rendering = rendering_cases().len();
             items.extend((0..rendering).map(Item::Rendering));
+            items.extend((0..rule_cases().len()).map(Item::Rules));
+            items.extend((0..every_text().len()).map(Item::Text));
         }
         for class in CLASSES {
             items.extend((0..self.frames).map(|i| Item::Frame(class, i)));
         }
         items.extend((0..self.frames).map(Item::Wide));
         items.extend((0..self.frames).map(Item::Foot));
+        items.extend((0..self.frames).map(Item::Broad));
         #[cfg(feature = "calls")]
         items.extend((0..self.frames).map(Item::Ranges));
         #[cfg(feature = "calls")]
         for index in 0..self.lists {
-            let list = [Item::List, Item::Stretched, Item::FootList];
+            let list = [
+                Item::List,
+                Item::Stretched,
+                Item::FootList,
+                Item::RuleList,
+                Item::StretchedRules,
+            ];
             items.extend(list.map(|item| item(index)));
         }
         #[cfg(feature = "calls")]
@@ -215,6 +243,10 @@ fn compare(tally: &mut Tally, item: Item, seed: u64) {
             let bytes = generate::foot_frame(seed, index);
             frames::compare(tally, "feet", &bytes, REFERENCE);
         }
+        Item::Broad(index) => {
+            let (bytes, choice) = generate::broad_frame(seed, index);
+            frames::compare(tally, "broad", &bytes, choice.width);
+        }
         Item::Size(place) => {
             let case = &generate::size_cases()[place];
             let frame = Frame {
@@ -239,6 +271,29 @@ fn compare(tally: &mut Tally, item: Item, seed: u64) {
             let case = super::lists::stretched(&case, seed, index);
             super::lists::compare(tally, "lists, stretched", &case);
         }
+        #[cfg(feature = "calls")]
+        Item::RuleList(index) => {
+            let case = generate::rule_case(seed, index);
+            super::lists::compare(tally, "lists, rules", &case);
+        }
+        #[cfg(feature = "calls")]
+        Item::StretchedRules(index) => {
+            let case = generate::rule_case(seed, index);
+            let case = super::lists::stretched(&case, seed, index);
+            super::lists::compare(tally, "lists, rules, stretched", &case);
+        }
+        #[cfg(feature = "calls")]
+        Item::Rules(place) => {
+            let case = &rule_cases()[place];
+            super::lists::compare(tally, "rules, fixed list", case);
+        }
+        #[cfg(feature = "calls")]
+        Item::Text(place) => {
+            let case = &every_text()[place];
+            super::lists::compare(tally, "texts by a rule", case);
+        }
+        #[cfg(feature = "calls")]
+        Item::Points(part) => super::points::compare(tally, part),
         #[cfg(feature = "calls")]
         Item::Large(place) => {
             let case = super::large::numbered(place);
@@ -287,6 +342,20 @@ fn rendering_cases() -> &'static [CallCase] {
     &CASES
 }
 
+#[cfg(feature = "calls")]
+fn rule_cases() -> &'static [CallCase] {
+    static CASES: LazyLock<Vec<CallCase>> =
+        LazyLock::new(generate::rule_cases);
+    &CASES
+}
+
+#[cfg(feature = "calls")]
+fn every_text() -> &'static [CallCase] {
+    static CASES: LazyLock<Vec<CallCase>> =
+        LazyLock::new(generate::every_text);
+    &CASES
+}
+
 pub(super) fn class_name(class: Class) -> &'static str {
     let known = Class::ALL.into_iter().find(|(known, _)| *known == class);
     known.expect("all classes are listed").1
@@ -298,6 +367,7 @@ fn name(item: Item, seed: u64) -> String {
         Item::Frame(class, index) => (class_name(class), index),
         Item::Wide(index) => ("widths", index),
         Item::Foot(index) => ("feet", index),
+        Item::Broad(index) => ("broad", index),
         Item::Size(place) => ("sizes", place as u64),
         #[cfg(feature = "calls")]
         Item::List(index) => ("list", index),
@@ -305,6 +375,16 @@ fn name(item: Item, seed: u64) -> String {
         Item::FootList(index) => ("foot-list", index),
         #[cfg(feature = "calls")]
         Item::Stretched(index) => ("stretched", index),
+        #[cfg(feature = "calls")]
+        Item::RuleList(index) => ("rule-list", index),
+        #[cfg(feature = "calls")]
+        Item::StretchedRules(index) => ("stretched-rules", index),
+        #[cfg(feature = "calls")]
+        Item::Rules(place) => ("rules", place as u64),
+        #[cfg(feature = "calls")]
+        Item::Text(place) => ("text", place as u64),
+        #[cfg(feature = "calls")]
+        Item::Points(part) => ("points", part as u64),
         #[cfg(feature = "calls")]
         Item::Large(place) => ("large", place as u64),
         #[cfg(feature = "calls")]
@@ -338,12 +418,23 @@ impl Item {
             "sizes" => Some(Item::Size(index as usize)),
             "widths" => Some(Item::Wide(index)),
             "feet" => Some(Item::Foot(index)),
+            "broad" => Some(Item::Broad(index)),
             #[cfg(feature = "calls")]
             "list" => Some(Item::List(index)),
             #[cfg(feature = "calls")]
             "foot-list" => Some(Item::FootList(index)),
             #[cfg(feature = "calls")]
             "stretched" => Some(Item::Stretched(index)),
+            #[cfg(feature = "calls")]
+            "rule-list" => Some(Item::RuleList(index)),
+            #[cfg(feature = "calls")]
+            "stretched-rules" => Some(Item::StretchedRules(index)),
+            #[cfg(feature = "calls")]
+            "rules" => Some(Item::Rules(index as usize)),
+            #[cfg(feature = "calls")]
+            "text" => Some(Item::Text(index as usize)),
+            #[cfg(feature = "calls")]
+            "points" => Some(Item::Points(index as usize)),
             #[cfg(feature = "calls")]
             "large" => Some(Item::Large(index as usize)),
             #[cfg(feature = "calls")]

@@ -37,6 +37,11 @@ pub fn all() -> Vec<Input> {
     ]
 }
 
+/// What brokers in Japan have: mostly characters of two columns.
+pub fn japanese() -> Input {
+    script("Japanese tariff", japanese_tariff())
+}
+
 /// Small saves, as many as a batch takes.
 pub fn saves() -> Input {
     let first = |place| 1_000 + 10 * place;
@@ -132,6 +137,26 @@ fn price_#(amount: u32, zone: Zone#, discount: u32) -> u32 {
 }
 "#;
     repeated(PIECE, 0, 65_536)
+}
+
+/// Some 20 KB of constants, records and lists, their names, literals and
+/// comments in Japanese.
+fn japanese_tariff() -> String {
+    const PIECE: &str = r#"
+// 第#地域の料率。二〇二六年一月一日から有効。
+record 地域# { 名称: String, 基本料率: u32, 都道府県: List[String], 備考: String? }
+
+const 第_#: 地域# = 地域# { 名称: "第#地域の火災保険", 基本料率: 1200 + # * 3,
+    都道府県: ["東京都", "神奈川県", "埼玉県", "千葉県", "茨城県", "栃木県"], // 最初の六つ
+    備考: none };
+
+fn 保険料_#(口数: u32, 料率: 地域#, 割引: u32) -> u32 {
+    let 基本 = 料率.基本料率 * 口数 - 割引 / 2;
+    if 口数 >= 100 { return 基本 - 基本 / 10; }
+    基本
+}
+"#;
+    repeated(PIECE, 0, 20_000)
 }
 
 /// Calls in lists in calls, whose lines end near column 80.

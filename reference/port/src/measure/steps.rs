@@ -5,7 +5,7 @@ use std::{fmt::Write, hint::black_box};
 use judge::{
     calls::{Answer, Given, LayoutState, RenderState},
     choice::Choice,
-    driver::{self, Held, Run},
+    driver::{self, Held, Page, Run},
     figures::Tallies,
     frame::Frame,
     generate::{self, SizeCase},
@@ -13,8 +13,8 @@ use judge::{
     program::{self, ROWS, Widths},
     reader,
     rows::{self, Row},
+    rule::{SUPPLIED, UNICODE_15_1, UNICODE_16_0},
     tree,
-    width::REFERENCE,
 };
 
 #[cfg(feature = "formatter")]
@@ -31,6 +31,7 @@ struct Ported<'f> {
     given: Given<'f>,
     declarations: usize,
     rows: usize,
+    rule: usize,
     store: Vec<u32>,
     marks: Vec<u8>,
     output: Vec<u8>,
@@ -42,11 +43,13 @@ impl Ported<'_> {
         let Ported {
             given,
             declarations,
+            rule,
             ..
         } = *self;
         let store = &mut self.store;
+        let chosen = [OLD, rule];
         let answer =
-            crate::layout(given, store, &fresh, declarations, true, OLD);
+            crate::layout(given, store, &fresh, declarations, true, chosen);
         assert!(answer.is_ok(), "{answer:?}");
     }
 
@@ -59,7 +62,10 @@ impl Ported<'_> {
             &mut self.output,
             &RenderState::default(),
             self.rows,
-            REFERENCE,
+            Page {
+                rule: self.rule,
+                ..Page::REFERENCE
+            },
         );
         match answer {
             Ok(Answer::Written { bytes, .. }) => bytes,
@@ -69,8 +75,11 @@ impl Ported<'_> {
 
     /// The text of the whole run, which has rows and marks of its own.
     fn format(&mut self) -> &[u8] {
-        let answer =
-            crate::format(self.given, Choice::REFERENCE, &mut self.output);
+        let choice = Choice {
+            rule: self.rule,
+            ..Choice::REFERENCE
+        };
+        let answer = crate::format(self.given, choice, &mut self.output);
         &self.output[..answer.expect("room for all").bytes as usize]
     }
 
@@ -142,6 +151,50 @@ pub fn of_files(input: &Input) -> Vec<Line> {
         lines.push(line(step, bytes, "byte", seconds));
     }
     lines.extend(small_files(input, &mut ported, &trees, &lengths));
+    lines
+}
+
+/// Layout and rendering by an edition of Unicode, beside the original, which
+/// computes the widths of names and takes the bytes of literals; and by
+/// supplied widths, if these aren't timed elsewhere.
+pub fn by_rules(input: &Input, supplied: bool) -> Vec<Line> {
+    let files = input.files.iter();
+    let accepted: Vec<_> = files
+        .map(|file| reader::read(&file.source, &file.image))
+        .map(|read| read.expect("a legal file"))
+        .collect();
+    let trees: Vec<tree::Input> = accepted
+        .iter()
+        .zip(&input.files)
+        .map(|(accepted, file)| tree::Input::new(accepted, &file.image))
+        .collect();
+    let Lent { mut ported, .. } = Lent::to(input, &trees);
+    let size = ported.iter().map(|one| one.rows).sum();
+    let mut lines = Vec::new();
+    for (rule, steps) in [
+        (SUPPLIED, ["layout", "rendering"]),
+        (UNICODE_15_1, ["layout by 15.1", "rendering by 15.1"]),
+        (UNICODE_16_0, ["layout by 16.0", "rendering by 16.0"]),
+    ] {
+        if rule == SUPPLIED && !supplied {
+            continue;
+        }
+        ported.iter_mut().for_each(|one| one.rule = rule);
+        let times =
+            [layout(&mut ported, &trees), rendered(&mut ported, &trees)];
+        for (step, [port_seconds, rust_seconds]) in
+            steps.into_iter().zip(times)
+        {
+            lines.push(Line {
+                step,
+                input: input.name.clone(),
+                size,
+                unit: "row",
+                port_seconds,
+                rust_seconds,
+            });
+        }
+    }
     lines
 }
 
@@ -218,6 +271,7 @@ fn of_file<'f>(
         },
         declarations: run.stops.len() - 1,
         rows: run.rows.len(),
+        rule: SUPPLIED,
         store: vec![0; rows * Row::CELLS],
         marks: vec![0; run.marks.len()],
         output: vec![0; output],
@@ -310,6 +364,7 @@ fn of_document<'e>(
         given: empty.given(),
         declarations: 0,
         rows: document.rows.len(),
+        rule: SUPPLIED,
         store: cells.collect(),
         marks: vec![0; marks],
         output: vec![0; roomy(text)],
@@ -327,28 +382,48 @@ pub struct StackLine {
 /// What any call may take.
 pub const MOST_STACK: usize = 256 << 10;
 
+/// The rules by which the stack is measured, with what a rendering and a whole
+/// run by each are called. The judge as it is built for timing has one.
+const RULES: &[(usize, [&str; 2])] = if cfg!(feature = "stand-in") {
+    &[(SUPPLIED, ["rendering", "whole"])]
+} else {
+    &[
+        (SUPPLIED, ["rendering", "whole"]),
+        (UNICODE_16_0, ["rendering by 16.0", "whole by 16.0"]),
+    ]
+};
+
 /// The stack that rendering takes on large documents and at every depth, and
 /// the whole run, a batch and a count on trees as deep as trees get.
 pub fn stack() -> Vec<StackLine> {
-    let largest = documents::growing().into_iter().rev().take(3);
+    let mut lines = Vec::new();
+    for (rule, [rendering, _]) in RULES {
+        let largest = documents::growing().into_iter().rev().take(3);
+        lines.extend(
+            largest
+                .map(|document| stack_of_rendering(document, *rule))
+                .chain(stack_by_depth(*rule))
+                .map(|line| StackLine {
+                    step: rendering,
+                    ..line
+                }),
+        );
+    }
     let sizes = generate::size_cases().iter();
     let deep =
         sizes.filter(|case| case.refusal == 0 && case.name.contains("deep"));
-    largest
-        .map(stack_of_rendering)
-        .chain(stack_by_depth())
-        .chain(deep.flat_map(stack_of_runs))
-        .collect()
+    lines.extend(deep.flat_map(stack_of_runs));
+    lines
 }
 
 /// The stack that rendering takes on rows of each depth that rows may have:
 /// one line for depths next to each other that take the same.
-fn stack_by_depth() -> Vec<StackLine> {
+fn stack_by_depth(rule: usize) -> Vec<StackLine> {
     let mut lines: Vec<StackLine> = Vec::new();
     let mut first = 1;
     for depth in 1..=documents::DEPTH {
         let line = documents::of_depth(depth)
-            .map(stack_of_rendering)
+            .map(|document| stack_of_rendering(document, rule))
             .into_iter()
             .max_by_key(|line| line.bytes)
             .expect("two documents");
@@ -366,11 +441,12 @@ fn stack_by_depth() -> Vec<StackLine> {
     lines
 }
 
-fn stack_of_rendering(document: Document) -> StackLine {
+fn stack_of_rendering(document: Document, rule: usize) -> StackLine {
     let texts = documents::texts();
     let empty = Empty::new();
     let bytes = Held::of_rows(&texts, &document.rows).render().len();
     let mut ported = of_document(&empty, &document, bytes);
+    ported.rule = rule;
     StackLine {
         step: "rendering",
         bytes: stack::used(|| {
@@ -381,7 +457,7 @@ fn stack_of_rendering(document: Document) -> StackLine {
     }
 }
 
-fn stack_of_runs(case: &SizeCase) -> [StackLine; 3] {
+fn stack_of_runs(case: &SizeCase) -> Vec<StackLine> {
     let file = File {
         source: case.source.clone(),
         image: case.image.clone(),
@@ -399,9 +475,14 @@ fn stack_of_runs(case: &SizeCase) -> [StackLine; 3] {
         rows,
         bytes,
     };
-    let whole = stack::used(|| {
-        black_box(ported.format());
+    let wholes = RULES.iter().map(|(rule, [_, whole])| {
+        ported.rule = *rule;
+        let used = stack::used(|| {
+            black_box(ported.format());
+        });
+        line(whole, used)
     });
+    let mut lines: Vec<_> = wholes.collect();
     let given = Given {
         source: &file.source,
         image: &file.image,
@@ -410,11 +491,8 @@ fn stack_of_runs(case: &SizeCase) -> [StackLine; 3] {
         let counted = crate::count(given, &Tallies::default());
         black_box(counted.expect("room for it"));
     });
-    [
-        line("whole", whole),
-        batches::stack_of(case, rows),
-        line("count", count),
-    ]
+    lines.extend([batches::stack_of(case, rows), line("count", count)]);
+    lines
 }
 
 /// The lines as Markdown.

@@ -14,13 +14,13 @@ use super::{Fault, planted, put, put_refusal, respoken};
 /// A batch.
 pub fn batch(
     frames: &[u8],
-    choice: &[u64; 2],
+    choice: &[u64; 3],
     table: &mut [u32],
     output: &mut [u8],
     out: &mut [u64; 3],
 ) {
-    let [width, mode] = choice.map(|number| number as usize);
-    let choice = Choice { width, mode };
+    let [width, mode, rule] = choice.map(|number| number as usize);
+    let choice = Choice { width, mode, rule };
     if planted(Fault::ChoiceFirst)
         && let Err(refusal) = choice.check()
     {

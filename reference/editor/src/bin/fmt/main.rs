@@ -28,9 +28,10 @@ const STACK: usize = 512 << 20;
 const FMT: Program = Program {
     name: "fmt",
     counted: "file",
-    usage: "usage: fmt [--check] [--width N] [--as-roto] [--] FILE...",
+    usage: "\
+usage: fmt [--check] [--width N] [--unicode V] [--as-roto] [--] FILE...",
     manual: MANUAL,
-    takes: &["--check", "--width", "--as-roto"],
+    takes: &["--check", "--width", "--unicode", "--as-roto"],
     fault_in: |paths| {
         let none = paths.is_empty();
         none.then(|| "no file is named".into())
@@ -45,6 +46,8 @@ as it is. Mode, owner and links are kept.
 
   --check     writes nothing, and says which files would change
   --width N   lines of N columns, from 40 to 200, in place of 80
+  --unicode V columns by Unicode V, 15.1 or 16.0, for names and literals; else
+              literals are counted in bytes, as Roto's own formatter does
   --as-roto   the text of Roto's own formatter: a file of which that would drop
               comments is refused
   --help      says this

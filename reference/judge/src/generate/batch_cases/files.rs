@@ -55,11 +55,24 @@ pub fn names(count: usize) -> File {
     list(&node(51, 0..0, [Some(name)]), count)
 }
 
+/// `const c: () = ["東京都港区", ..];`, of so many: 17 bytes and 12 columns
+/// each, so that four fit a line by Unicode alone.
+pub fn japanese(count: usize) -> File {
+    const TEXT: &str = "\"東京都港区\"";
+    let name = chosen(87, 0..TEXT.len(), 0, []);
+    let element = node(51, 0..0, [Some(name)]);
+    of_one(TEXT, list_of(&element, count))
+}
+
 /// A constant whose value is a list of so many of these.
 fn list(element: &Tree, count: usize) -> File {
+    of_one("xxxxxxxxx", list_of(element, count))
+}
+
+fn list_of(element: &Tree, count: usize) -> Tree {
     let value = of_elements(count, Some(element.clone()));
     let (name, unit) = (text(0..0, 1, "c"), node(43, 0..0, []));
-    of_one("xxxxxxxxx", node(11, 0..0, [name, unit, value].map(Some)))
+    node(11, 0..0, [name, unit, value].map(Some))
 }
 
 fn of_elements(count: usize, element: Option<Tree>) -> Tree {

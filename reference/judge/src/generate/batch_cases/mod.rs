@@ -5,14 +5,15 @@ mod files;
 
 use std::sync::LazyLock;
 
-use super::batches;
+use super::{batches, rules::ILLEGAL};
 use crate::{
     batch::MOST_FILES,
     choice::Choice,
     mode::{NEW, OLD},
+    rule::{LEGAL, SUPPLIED},
     width::REFERENCE,
 };
-use files::{File, NO_BYTES, known, names, of_size, refused};
+use files::{File, NO_BYTES, japanese, known, names, of_size, refused};
 
 /// A batch with what it shows.
 #[derive(Clone, Debug)]
@@ -28,12 +29,24 @@ pub fn cases() -> &'static [Case] {
         cases.single_files();
         cases.orders();
         cases.choices();
+        cases.rules();
         cases.cut_off();
         cases.lengths();
         cases.many();
         cases.0
     });
     &CASES
+}
+
+/// A width and a mode, with supplied widths.
+fn wide(width: usize, mode: usize) -> Choice {
+    let rule = SUPPLIED;
+    Choice { width, mode, rule }
+}
+
+/// A mode, and else as the original does it.
+fn in_mode(mode: usize) -> Choice {
+    wide(REFERENCE, mode)
 }
 
 struct Cases(Vec<Case>);
@@ -63,8 +76,7 @@ impl Cases {
             ("two-consts", &[OLD, NEW]),
         ] {
             for mode in modes {
-                let width = REFERENCE;
-                let choice = Choice { width, mode: *mode };
+                let choice = in_mode(*mode);
                 let shown = format!("{name}, mode {mode}");
                 self.put(&shown, &[known(name)], choice);
             }
@@ -101,8 +113,7 @@ impl Cases {
         for (name, files) in orders {
             let files: Vec<File> =
                 files.iter().map(|f| (*f).clone()).collect();
-            let (width, mode) = (REFERENCE, NEW);
-            self.put(name, &files, Choice { width, mode });
+            self.put(name, &files, in_mode(NEW));
         }
         self.put_plain("all refused", &all);
         self.put_plain("no file", &[]);
@@ -112,7 +123,7 @@ impl Cases {
         let files = [names(4), names(9), known("const-comment")];
         for width in [40, 80, 100, 200] {
             let name = format!("width {width}");
-            self.put(&name, &files, Choice { width, mode: NEW });
+            self.put(&name, &files, wide(width, NEW));
         }
         // A file's own refusals come before those of the choice, 8 after.
         let files = [known("const"), refused(4), known("nothing")];
@@ -129,13 +140,40 @@ impl Cases {
             (39, 2),
         ] {
             let name = format!("width {width}, mode {mode}");
-            self.put(&name, &files, Choice { width, mode });
+            self.put(&name, &files, wide(width, mode));
         }
         let files = [refused(8), known("const")];
         for (width, mode) in [(39, OLD), (REFERENCE, 2)] {
             let name = format!("8 and width {width}, mode {mode}");
-            self.put(&name, &files, Choice { width, mode });
+            self.put(&name, &files, wide(width, mode));
         }
+    }
+
+    /// Files that turn by one rule and not by another, and rules that can't
+    /// be chosen: 20 in each row, whatever else refuses a file.
+    fn rules(&mut self) {
+        let with = |rule, choice: Choice| Choice { rule, ..choice };
+        let files = [japanese(4), japanese(5), known("const-comment")];
+        for rule in LEGAL {
+            for mode in [OLD, NEW] {
+                let name = format!("rule {rule}, mode {mode}");
+                self.put(&name, &files, with(rule, in_mode(mode)));
+            }
+        }
+        let files = [known("const"), refused(2), NO_BYTES.into(), refused(4)];
+        for rule in ILLEGAL {
+            let name = format!("rule {rule}");
+            self.put(&name, &files, with(rule, Choice::REFERENCE));
+            let name = format!("rule {rule}, width 39, mode 2");
+            self.put(&name, &files, with(rule, wide(39, 2)));
+        }
+        for rule in LEGAL {
+            let name = format!("rule {rule}, width 39, mode 2");
+            self.put(&name, &files, with(rule, wide(39, 2)));
+        }
+        self.put("no file, rule 4", &[], with(4, Choice::REFERENCE));
+        let cut = vec![1, 2];
+        self.put("18 and rule 0", &[cut], with(0, Choice::REFERENCE));
     }
 
     /// Buffers that end in a frame, the first one or a later one.

@@ -8,7 +8,7 @@ const OPERATORS: [&str; 14] = [
     "**",
 ];
 const ASSIGNMENTS: [&str; 5] = ["+=", "-=", "*=", "/=", "%="];
-const LITERALS: [&str; 12] = [
+pub(super) const LITERALS: [&str; 12] = [
     "0",
     "1",
     "42u32",
@@ -22,6 +22,7 @@ const LITERALS: [&str; 12] = [
     "192.0.2.1",
     "2001:db8::1",
 ];
+pub(super) const PARTS: [&str; 4] = ["text ", "é", "日本 = ", " "];
 const FEW: [usize; 6] = [0, 1, 1, 2, 3, 6];
 
 impl Printer<'_> {
@@ -125,7 +126,7 @@ impl Printer<'_> {
         let fixed = ["true", "false", "()"];
         let payload = *self.random.pick(&[0, 0, 0, 1, 2, 3]);
         let token = match payload {
-            0 => *self.random.pick(&LITERALS),
+            0 => *self.random.pick(self.words.literals),
             fixed_one => fixed[fixed_one - 1],
         };
         let span = self.token(token);
@@ -314,8 +315,7 @@ impl Printer<'_> {
         let mut parts = Vec::new();
         for place in 0..*self.random.pick(&[0, 1, 2, 4]) {
             let part = if place % 2 == 0 {
-                let content =
-                    *self.random.pick(&["text ", "é", "日本 = ", " "]);
+                let content = *self.random.pick(self.words.parts);
                 node(84, self.token(content), [])
             } else {
                 let start = self.token("{").start;

@@ -4,6 +4,7 @@
 //! span. Spans are those of the parser; a comment's span ends after its
 //! newline, as the lexer has it, or before it in some files.
 
+mod broad;
 mod declarations;
 mod expressions;
 
@@ -50,18 +51,53 @@ const REMARKS: [&str; 10] = [
 const SHEBANGS: [&str; 4] =
     ["#!/usr/bin/env roto", "#!/x", "#!/é \u{2003}", "#!変数\t "];
 
+/// What a program is made of besides its grammar.
+struct Words {
+    names: &'static [&'static str],
+    remarks: &'static [&'static str],
+    literals: &'static [&'static str],
+    parts: &'static [&'static str],
+}
+
+/// Mostly of ASCII.
+static WORDS: Words = Words {
+    names: &NAMES,
+    remarks: &REMARKS,
+    literals: &expressions::LITERALS,
+    parts: &expressions::PARTS,
+};
+
 /// A program of up to five declarations.
 pub fn draft(random: &mut Random) -> Draft {
-    printed(random, 0, &[5, 20, 60, 150])
+    printed(random, &WORDS, 0, FUELS)
 }
 
 /// A program of three to five short declarations.
 pub fn short_draft(random: &mut Random) -> Draft {
-    printed(random, 3, &[0, 1, 3])
+    printed(random, &WORDS, 3, SHORT_FUELS)
 }
 
-fn printed(random: &mut Random, least: usize, fuels: &[usize]) -> Draft {
+/// A program mostly of characters that take two columns, or none.
+pub fn broad_draft(random: &mut Random) -> Draft {
+    printed(random, &broad::WORDS, 0, FUELS)
+}
+
+/// The same of three to five short declarations.
+pub fn short_broad_draft(random: &mut Random) -> Draft {
+    printed(random, &broad::WORDS, 3, SHORT_FUELS)
+}
+
+const FUELS: &[usize] = &[5, 20, 60, 150];
+const SHORT_FUELS: &[usize] = &[0, 1, 3];
+
+fn printed(
+    random: &mut Random,
+    words: &'static Words,
+    least: usize,
+    fuels: &[usize],
+) -> Draft {
     let mut printer = Printer {
+        words,
         newline: if random.once_in(4) { "\r\n" } else { "\n" },
         keeps_newline: !random.once_in(4),
         mess: *random.pick(&[0, 1, 1, 2, 4]),
@@ -81,6 +117,7 @@ fn printed(random: &mut Random, least: usize, fuels: &[usize]) -> Draft {
 
 struct Printer<'r> {
     random: &'r mut Random,
+    words: &'static Words,
     out: String,
     comments: Vec<Range<usize>>,
     newline: &'static str,
@@ -159,7 +196,7 @@ impl Printer<'_> {
     }
 
     fn name(&mut self) -> Tree {
-        let content = *self.random.pick(&NAMES);
+        let content = *self.random.pick(self.words.names);
         let span = self.token(content);
         text(span, unicode_width::true_width(content), content)
     }
@@ -201,7 +238,7 @@ impl Printer<'_> {
     /// A comment to the end of its line.
     fn comment(&mut self) {
         let start = self.here();
-        let remark = *self.random.pick(&REMARKS);
+        let remark = *self.random.pick(self.words.remarks);
         self.out.push_str("//");
         self.out.push_str(remark);
         let end = self.here();

@@ -3,7 +3,7 @@
 mod faults;
 mod legal;
 mod limits;
-mod parts;
+pub(super) mod parts;
 
 use super::CallCase;
 

@@ -5,6 +5,7 @@ use crate::{
     calls::{Call, World},
     driver::Pen,
     rows::{self, Row},
+    rule::SUPPLIED,
     width::REFERENCE,
 };
 
@@ -160,7 +161,12 @@ pub fn render(stop: usize, room: usize) -> Call {
 }
 
 pub fn render_at(width: usize, stop: usize, room: usize) -> Call {
-    Call::Render { stop, room, width }
+    Call::Render {
+        stop,
+        room,
+        width,
+        rule: SUPPLIED,
+    }
 }
 
 /// One call on nodes, from fresh.

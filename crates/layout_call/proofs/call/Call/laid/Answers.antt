@@ -1,7 +1,12 @@
 use mathlib.Core.Path.{refl}
 use native.Mathlib.Omega.{arith}
-use Rattle.layout_call.proofs.Ends.{ends_laid, placed_in}
+use Rattle.layout_call.proofs.Ends.{ends_laid, placed_in, sums_within}
 use Rattle.layout_call.proofs.call.Call.laid.Goals as goal
+
+pub sum_by-requires : goal.sum_by-requires
+sum_by-requires c =
+    let call = c.args.self.now in
+    sums_within _ _ call.state call.args _ call.file.accepts c.requires.fits c.requires.room _ _ c.lay_all-e.ensures
 
 pub overflow_sub-result : goal.overflow_sub-result
 overflow_sub-result c =
@@ -11,5 +16,5 @@ overflow_sub-result c =
 pub returns : goal.returns
 returns c =
     let call = c.args.self.now in
-    ends_laid _ _ call.state call.args _ call.file.accepts c.requires.fits c.requires.room _ _ c.lay_all-e.ensures _ _
-    refl refl refl refl refl refl refl refl refl
+    ends_laid _ _ call.state call.args _ call.file.accepts c.requires.fits c.requires.room _ _ c.lay_all-e.ensures _ c.sum_by.ensures _ _
+    refl refl refl refl refl refl refl refl refl refl

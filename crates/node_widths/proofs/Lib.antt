@@ -1,0 +1,5 @@
+pub mod Pages
+pub mod Renders
+pub mod Summed
+pub mod Turned
+pub mod TurnedNests

@@ -1,0 +1,14 @@
+use mathlib.Core.Path.{sym, ◌∙◌}
+use Rattle.rowcheck.proofs.Pending.{stop_far, stop_past, stop_fits}
+use Rattle.rowcheck.proofs.wrong_place.Goals.{then-stop-gt-MAX_ROWS-via-then-stop-gt-MAX_ROWS, then-stop-gt-MAX_ROWS-via-else-stop-gt-MAX_ROWS+then-rows-stop}
+use Rattle.rowcheck.proofs.wrong_place.Goals as goal
+
+pub returns-then-stop-gt-MAX_ROWS : goal.returns-then-stop-gt-MAX_ROWS
+returns-then-stop-gt-MAX_ROWS c =
+    sym (elim c.then-stop-gt-MAX_ROWS.branch [
+      | then-stop-gt-MAX_ROWS-via-then-stop-gt-MAX_ROWS w ↦ stop_far _ _ _ _ _ w.if-stop-gt-MAX_ROWS.true
+      | then-stop-gt-MAX_ROWS-via-else-stop-gt-MAX_ROWS+then-rows-stop w ↦ stop_past _ _ _ _ _ w.if-stop-gt-MAX_ROWS.false w.if-rows-stop.true
+    ])
+
+pub returns : goal.returns
+returns c = c.wrong_row.ensures ∙ sym (stop_fits _ _ _ _ _ c.if-stop-gt-MAX_ROWS.false c.if-rows-stop.false)
