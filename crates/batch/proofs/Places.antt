@@ -5,7 +5,7 @@ use mathlib.Core.List.{List}
 use mathlib.Core.Bool.{Bool, true, false, cond, not, ◌&&◌}
 use Prim.Native.Nat.{ℕ, zero, suc, ◌+◌, ◌*◌, ◌≤◌}
 use native.Mathlib.Omega.{arith}
-use lib.ListN.{length, get_or}
+use lib.ListN.{length}
 use lib.Dec.{ltb, leb, eqb}
 use borrow.Author.Tests.{ltb-true, leb-true, not-false}
 use Rattle.laws.proofs.Booleans.{and_right}
@@ -15,8 +15,9 @@ use Rattle.text.proofs.Prefixes.{prefix_inside}
 use Rattle.image.specs.Bytes.{be16, be32}
 use Rattle.image.specs.Limits.{MAX_SOURCE, MAX_BODY, MAX_COMMENTS, MAX_RECORDS_DEEP}
 use Rattle.image.specs.Grammar.{bare, place, after, complete}
-use Rattle.image.specs.Read.{Read, got, bad, bind, Head, head_at, stop_at, Tree, absent, nil, header, width_bytes, comment_fits, comments_from, comments}
-use Rattle.image.specs.Read.{shape, opens, skips, child_at, record_at, children_at, tree_at, read_tree, read_image, source_fits, read_all, step_of}
+use Rattle.image.specs.Read.{Read, got, bad, bind, Head, head_at, stop_at, Tree, absent, nil}
+use Rattle.image.specs.Read.{any_version, header_fits, width_bytes, comment_fits, comments_from, comments}
+use Rattle.image.specs.Read.{shape, opens, skips, child_at, record_at, children_at, tree_at, read_tree, read_image, source_fits, read_with, read_all, step_of}
 use Rattle.image.proofs.Accepted.{headed}
 use Rattle.image.proofs.CommentList.{listed}
 use Rattle.image.proofs.Reading.{child_within, record_bad, record_opens, within}
@@ -117,26 +118,26 @@ tree_before s b v at h =
     then (length b) (record_at s b v MAX_RECORDS_DEEP 1 at (length b)) _ (record_before s b v MAX_RECORDS_DEEP 1 at (length b) h)
     (λ t q e. pick (length b) (ltb q (length b)) _ _ (λ g. let k = ltb-true q (length b) g in omega arith) (λ g. tt))
 
-image_before : (o : Bool) (s b : List ℕ) → Before (10 + MAX_BODY) (read_image o s b)
+image_before : (may : ℕ → Bool) (o : Bool) (s b : List ℕ) → Before (10 + MAX_BODY) (read_image may o s b)
 unfolding read_image
-image_before o s b =
-    pick (10 + MAX_BODY) (not (header b)) _ _ (λ e. omega arith)
+image_before may o s b =
+    pick (10 + MAX_BODY) (not (header_fits may b)) _ _ (λ e. omega arith)
     (λ e.
-    let h = headed b (not-false (header b) e) in
+    let h = headed may b (not-false (header_fits may b) e) in
     let l : length b + 5 ≤ 10 + MAX_BODY = omega (arith, h.size, h.short) in
     then (10 + MAX_BODY) (comments o s b) _ (wider (length b + 5) (10 + MAX_BODY) (comments o s b) l (comments_before o s b))
     (λ done at f.
     let c = listed o s b at (ap step_of f) in
     let k : at ≤ length b = omega (arith, c.within, c.list.stop) in
-    wider (length b) (10 + MAX_BODY) (read_tree s b (width_bytes (get_or b 0 0)) at) (omega arith) (tree_before s b (width_bytes (get_or b 0 0)) at k)))
+    wider (length b) (10 + MAX_BODY) (read_tree s b (width_bytes b) at) (omega arith) (tree_before s b (width_bytes b) at k)))
 
 all_before : (s b : List ℕ) → Before (10 + MAX_BODY) (read_all s b)
-unfolding read_all source_fits
+unfolding read_with source_fits
 all_before s b =
     pick (10 + MAX_BODY) (not (source_fits s)) _ _ (λ e. omega arith)
     (λ e.
     let h = leb-true (length s) MAX_SOURCE (not-false _ e) in
-    pick (10 + MAX_BODY) (not (well_formed s)) _ _ (λ f. omega (arith, prefix_inside s)) (λ f. image_before false s b))
+    pick (10 + MAX_BODY) (not (well_formed s)) _ _ (λ f. omega (arith, prefix_inside s)) (λ f. image_before any_version false s b))
 
 pub read_places : (s b : List ℕ) (n p : ℕ) → read_all s b ≡ bad n p → p ≤ 10 + MAX_BODY
 read_places s b n p e = rw e at (all_before s b)

@@ -14,7 +14,7 @@ use Rattle.refusals.specs.Answers.{refusal_of}
 use Rattle.refusals.specs.Reasons.{answer_of, refusal_in}
 use Rattle.refusals.specs.declared.Refused.{Refused}
 use Rattle.refusals.proofs.Answers.{by_table}
-use Rattle.image.specs.Read.{Read, got, bad, read_all, read_refusal, reader_numbers, header, source_fits}
+use Rattle.image.specs.Read.{Read, got, bad, read_all, read_refusal, reader_numbers, header_fits, any_version, source_fits}
 use Rattle.image.proofs.Numbers.{read_numbers}
 use Rattle.image.proofs.Answers.{read_refusal_lem}
 use Rattle.cut_rule.specs.Rules as rules
@@ -132,8 +132,8 @@ module _ (s b : List ℕ) where
 
   image_under : (rule : ℕ) → Under render_numbers (render_image rule s b)
   image_under rule =
-      under_first render_numbers (refuse_if (not (source_fits s)) 1 0 ∷ formed_line rule s ∷ refuse_if (not (header b)) 3 0 ∷ [])
-      (under_if render_numbers (not (source_fits s)) 1 0 refl, (formed_under rule, (under_if render_numbers (not (header b)) 3 0 refl, tt)))
+      under_first render_numbers (refuse_if (not (source_fits s)) 1 0 ∷ formed_line rule s ∷ refuse_if (not (header_fits any_version b)) 3 0 ∷ [])
+      (under_if render_numbers (not (source_fits s)) 1 0 refl, (formed_under rule, (under_if render_numbers (not (header_fits any_version b)) 3 0 refl, tt)))
 
   pub render_under : (q : rules.RenderArgs states.RenderChoice) (z : states.RenderState) (store marks : List ℕ)
       → Under render_numbers ((rules_of s b).render_refusal q z store marks)

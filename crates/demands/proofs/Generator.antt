@@ -20,7 +20,8 @@ use Rattle.image.specs.Limits.{MAX_BODY}
 use Rattle.image.specs.Read.{Read, got, bad, Image, read_all, read_refusal, reader_numbers}
 use Rattle.steps.specs.Writer.{contents_from, image_due, writer_refusal}
 use Rattle.steps.specs.OfImage.{steps_of, steps_by, steps_due, steps_of_refusal}
-use Rattle.steps.specs.Exact.{Bytes, Turns, OneList}
+use Rattle.steps.specs.Exact.{Turns, OneList}
+use Rattle.image.specs.Write.{Bytes}
 use Rattle.steps.proofs.Numbers.{steps_number}
 use Rattle.steps.proofs.Claims.{exactly_one, written_reads_back}
 use Rattle.refusals.specs.Reasons.{answer_of, refusal_in}

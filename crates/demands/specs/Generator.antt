@@ -8,7 +8,7 @@ use Rattle.refusals.specs.declared.Refused.{Refused}
 use Rattle.image.specs.Read.{reader_numbers}
 use Rattle.steps.specs.Writer.{writer_refusal}
 use Rattle.steps.specs.OfImage.{steps_of_refusal}
-use Rattle.steps.specs.Exact.{Bytes}
+use Rattle.image.specs.Write.{Bytes}
 use Rattle.writer.specs.Wrote.{Writes, Lists}
 use Rattle.demands.specs.Demand1.{Answered}
 

@@ -35,7 +35,7 @@ use Rattle.file.specs.declared.Text.{Text}
 use Rattle.file.specs.Whole.{to_choice, Formats}
 use Rattle.figures.specs.declared.Counted.{Counted}
 use Rattle.figures.specs.Figures.{count_refusal, Counts}
-use Rattle.steps.specs.Exact.{Bytes}
+use Rattle.image.specs.Write.{Bytes}
 use Rattle.steps.specs.Writer.{writer_refusal}
 use Rattle.steps.specs.OfImage.{steps_of_refusal}
 use Rattle.writer.specs.Wrote.{Writes, Lists}

@@ -13,8 +13,8 @@ use lib.Dec.{ltb, eqb}
 use borrow.Author.Tests.{ltb-false}
 use Rattle.image.specs.Bytes.{be32, part}
 use Rattle.image.specs.Grammar.{bare, place, after, complete}
-use Rattle.image.specs.Write.{bytes4, content, framed, written, writtens, plain, plains}
-use Rattle.image.specs.Read.{Read, got, bad, bind, head_at, stop_at, kind_at, Tree, Trees, absent, nil}
+use Rattle.image.specs.Write.{Bytes, bytes4, content, framed, written, writtens, plain, plains}
+use Rattle.image.specs.Read.{width_bytes, Read, got, bad, bind, head_at, stop_at, kind_at, Tree, Trees, absent, nil}
 use Rattle.image.specs.Read.{◌▸◌, skips, child_by, child_at, record_at, children_at, tree_at, step_of}
 use Rattle.image.proofs.Shapes.{is_got, skips_within, opened_after, opened_order}
 use Rattle.image.proofs.Reading.{record_within}
@@ -32,10 +32,6 @@ join b x y z p q =
 pub part_length : (b : List ℕ) (x y : ℕ) → x ≤ y → y ≤ length b → length (part x y b) ≡ y - x
 part_length b x y p q = length-take-le (y - x) (drop x b) (rw (length-drop x b) (omega arith))
 
--- the elements are bytes
-abbrev pub Small : List ℕ → Type 0
-Small b = (i : ℕ) → get_or b i 0 < 256
-
 digits : (x y z w : ℕ) → x < 256 → y < 256 → z < 256 → w < 256
     → bytes4 (x * 16777216 + y * 65536 + z * 256 + w) ≡ x ∷ y ∷ z ∷ w ∷ []
 digits x y z w a b c d =
@@ -47,7 +43,7 @@ digits x y z w a b c d =
     cc
 
 -- the four bytes of a number are those it is written as
-pub four : (b : List ℕ) (at : ℕ) → Small b → at + 4 ≤ length b → part at (at + 4) b ≡ bytes4 (be32 b at)
+pub four : (b : List ℕ) (at : ℕ) → Bytes b → at + 4 ≤ length b → part at (at + 4) b ≡ bytes4 (be32 b at)
 unfolding be32
 four b at small h =
     let n : at + 4 - at ≡ 4 = omega arith in
@@ -72,7 +68,7 @@ single b at h =
     ap (λ (k : ℕ). take k (drop at b)) n ∙ rw (drop-cons b at 0 h)
 
 -- what follows the length of a record
-content_part : (b : List ℕ) (at f st : ℕ) → Small b → at + 13 ≤ f → f ≤ st → st ≤ length b
+content_part : (b : List ℕ) (at f st : ℕ) → Bytes b → at + 13 ≤ f → f ≤ st → st ≤ length b
     → part (at + 4) st b ≡ content (kind_at b at) (be32 b (at + 5)) (be32 b (at + 9)) (part (at + 13) f b) (part f st b)
 content_part b at f st small p q r =
     let k : part (at + 4) (at + 5) b ≡ kind_at b at ∷ [] =
@@ -89,7 +85,7 @@ content_part b at f st small p q r =
     ∙ ap₂ (λ (u v : List ℕ). u ++ v) y (join b (at + 13) f st p q)))
 
 -- a whole record
-record_part : (b : List ℕ) (at f : ℕ) → Small b → at + 13 ≤ f → f ≤ stop_at b at → stop_at b at ≤ length b
+record_part : (b : List ℕ) (at f : ℕ) → Bytes b → at + 13 ≤ f → f ≤ stop_at b at → stop_at b at ≤ length b
     → part at (stop_at b at) b
     ≡ framed (content (kind_at b at) (be32 b (at + 5)) (be32 b (at + 9)) (part (at + 13) f b) (part f (stop_at b at) b))
 record_part b at f small p q r =
@@ -148,7 +144,7 @@ children_exact b one f (suc n) row at stop ts e le l h = go (ltb at stop) (eqb r
     go false t₂ false i g h = absurd (false≢true (ap is_got h))
 
 -- an absent child is four zeros
-child_exact : (b : List ℕ) → Small b → (one : ℕ → ℕ → ℕ → Read Tree) → Right b one → Right b (child_by b one)
+child_exact : (b : List ℕ) → Bytes b → (one : ℕ → ℕ → ℕ → Read Tree) → Right b one → Right b (child_by b one)
 unfolding written plain
 child_exact b small one f p at stop t q le l h = go (skips b p at stop) refl h
   where
@@ -165,7 +161,7 @@ child_exact b small one f p at stop t q le l h = go (skips b p at stop) refl h
     go false k h = f (bare p) at stop t q le l h
 
 -- the bytes of what was read are those that its tree is written as
-pub exact : (s b : List ℕ) → Small b → (v left p at end : ℕ) (t : Tree) (q : ℕ) → at ≤ end → end ≤ length b
+pub exact : (s b : List ℕ) → Bytes b → (v left p at end : ℕ) (t : Tree) (q : ℕ) → at ≤ end → end ≤ length b
     → record_at s b v left p at end ≡ got t q
     → part at q b ≡ written (plain b t)
 unfolding written plain
@@ -187,9 +183,9 @@ exact s b small v (suc left) p at end t q le l h =
     ∙ ap (λ (u : Tree). written (plain b u)) (sym i.is)
 
 -- an accepted image ends with the bytes that its tree is written as
-pub tree_exact : (ordered : Bool) (s b : List ℕ) (n at : ℕ) → Small b → (r : Root ordered s b n at)
+pub tree_exact : (may : ℕ → Bool) (ordered : Bool) (s b : List ℕ) (n at : ℕ) → Bytes b → (r : Root may ordered s b n at)
     → part at (length b) b ≡ written (plain b r.tree)
 unfolding tree_at
-tree_exact ordered s b n at small r =
+tree_exact may ordered s b n at small r =
     let h = r.list.within in
-    exact s b small 2 64 1 at (length b) r.tree (length b) (omega (arith, r.place, r.count)) (le_refl (length b)) r.reads
+    exact s b small (width_bytes b) 64 1 at (length b) r.tree (length b) (omega (arith, r.place, r.count)) (le_refl (length b)) r.reads

@@ -10,7 +10,7 @@ use Rattle.text.specs.Newlines.{is_range}
 use Rattle.image.specs.Bytes.{be16, be32}
 use Rattle.image.specs.Grammar.{row_of, row_under_of, kind_fits_of, payload_fits, first_child}
 use Rattle.image.specs.Read.{header, comment_fits, comments_from, comments, shape, opens, children_at}
-use Rattle.image.specs.Read.{skips, record_at, tree_at, read_tree, read_image, source_fits, read_all, outcome}
+use Rattle.image.specs.Read.{skips, record_at, tree_at, read_tree, read_image, source_fits, read_with, read_all, width_bytes, outcome}
 use Rattle.image.specs.Write.{Plain, Plains, without, plainly, done, ◌next◌, bytes4, written}
 use Rattle.image.specs.declared.Document.{Document}
 
@@ -158,7 +158,7 @@ more =
 
 examples_right : answers (worked ++ more) ≡ due (worked ++ more)
 unfolding worked shebang more image listing pair only tree declares text name constant literal operator assigns joins imports acute abc empty written
-    read_all source_fits well_formed prefix run read_image header comments comments_from comment_fits
+    read_with source_fits well_formed prefix run read_image header width_bytes comments comments_from comment_fits
     read_tree tree_at record_at opens shape kind_fits_of payload_fits first_child row_under_of row_of children_at skips
     be16 be32 is_range boundary within sequence followed row_in
 examples_right = refl

@@ -119,12 +119,12 @@ no_payload k e = (not 2 refl, ne_or (ne_or (ne_eqb k 50 (not 50 refl)) (ne_eqb k
     ne_or : {a b : Bool} → a ≡ false → b ≡ false → a || b ≡ false
     ne_or f g = rw (f, g)
 
-pub paid_kind : (b : List ℕ) (p at end n : ℕ) (k : Kind) (y : Bool) → n ≡ be32 b at → 9 ≤ n → at + 4 + n ≤ end
+pub paid_kind : (b : List ℕ) (v p at end n : ℕ) (k : Kind) (y : Bool) → n ≡ be32 b at → 9 ≤ n → at + 4 + n ≤ end
     → kind_fits_of p (kind_at b at) ≡ true
-    → Some k ≡ kind_of (kind_at b at) → y ≡ payload_fits b 2 p (kind_number k) (at + 13) (at + 4 + n)
-    → then_some y k ≡ kind_if (kind_at b at) (shape b 2 p at end)
+    → Some k ≡ kind_of (kind_at b at) → y ≡ payload_fits b v p (kind_number k) (at + 13) (at + 4 + n)
+    → then_some y k ≡ kind_if (kind_at b at) (shape b v p at end)
 unfolding shape
-paid_kind b p at end n k y en l w f e paid =
+paid_kind b v p at end n k y en l w f e paid =
     let same = numbered (kind_at b at) k (sym e) in
     let fits : kind_fits_of p (kind_number k) ≡ true = rw same at f in
     let found : Some k ≡ kind_of (kind_number k) = rw same at e in

@@ -1,6 +1,8 @@
 pub mod Texts
 pub mod Table
 pub mod Shapes
+pub mod Got
+pub mod Versions
 pub mod Known
 pub mod FirstPlace
 pub mod Reading
@@ -10,6 +12,7 @@ pub mod Inside
 pub mod Accepted
 pub mod Answers
 pub mod Exact
+pub mod Standing
 pub mod Examples
 pub mod Numbers
 pub mod Unpacked

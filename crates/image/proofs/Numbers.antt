@@ -4,15 +4,16 @@ use mathlib.Core.Path.{◌≡◌, refl}
 use mathlib.Core.List.{List}
 use mathlib.Core.Bool.{Bool, true, false, cond, not, ◌&&◌}
 use Prim.Native.Nat.{ℕ, zero, suc, ◌+◌, ◌*◌}
-use lib.ListN.{length, get_or}
+use lib.ListN.{length}
 use lib.Dec.{ltb, leb, eqb}
 use Rattle.refusals.specs.Refusals.{is_one_of}
 use Rattle.text.specs.Utf8.{well_formed}
 use Rattle.text.specs.Newlines.{is_range}
 use Rattle.image.specs.Bytes.{be16, be32}
 use Rattle.image.specs.Grammar.{bare, place, after, complete, row_under_of}
-use Rattle.image.specs.Read.{Read, got, bad, bind, Tree, absent, nil, header, width_bytes, comment_fits, comments_from, comments, shape, opens}
-use Rattle.image.specs.Read.{skips, child_at, record_at, children_at, tree_at, read_tree, read_image, source_fits, read_all, reader_numbers, ReadNumbers}
+use Rattle.image.specs.Read.{Read, got, bad, bind, Tree, absent, nil, any_version, header_fits, width_bytes}
+use Rattle.image.specs.Read.{comment_fits, comments_from, comments, shape, opens}
+use Rattle.image.specs.Read.{skips, child_at, record_at, children_at, tree_at, read_tree, read_image, source_fits, read_with, reader_numbers, ReadNumbers}
 
 -- read, or refused with a number of the reader
 abbrev Known : {A : Type 0} → Read A → Type 0
@@ -82,15 +83,15 @@ tree_known s b v at =
     then (record_at s b v 64 1 at (length b)) _ (record_known s b v 64 1 at (length b))
     (λ t q e. pick (ltb q (length b)) _ _ refl tt)
 
-image_known : (o : Bool) (s b : List ℕ) → Known (read_image o s b)
+image_known : (may : ℕ → Bool) (o : Bool) (s b : List ℕ) → Known (read_image may o s b)
 unfolding read_image
-image_known o s b =
-    pick (not (header b)) _ _ refl
-    (then (comments o s b) _ (comments_known o s b) (λ done at e. tree_known s b (width_bytes (get_or b 0 0)) at))
+image_known may o s b =
+    pick (not (header_fits may b)) _ _ refl
+    (then (comments o s b) _ (comments_known o s b) (λ done at e. tree_known s b (width_bytes b) at))
 
-all_known : (s b : List ℕ) → Known (read_all s b)
-unfolding read_all
-all_known s b = pick (not (source_fits s)) _ _ refl (pick (not (well_formed s)) _ _ refl (image_known false s b))
+all_known : (may : ℕ → Bool) (o : Bool) (s b : List ℕ) → Known (read_with may o s b)
+unfolding read_with
+all_known may o s b = pick (not (source_fits s)) _ _ refl (pick (not (well_formed s)) _ _ refl (image_known may o s b))
 
 pub read_numbers : ReadNumbers
-read_numbers s b n p e = rw e at (all_known s b)
+read_numbers s b n p e = rw e at (all_known any_version false s b)

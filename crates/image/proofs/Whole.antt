@@ -1,27 +1,18 @@
 -- The whole reading by its parts: what each part answers decides what the whole answers.
 -- Assumes nothing.
-use mathlib.Core.Path.{◌≡◌, ap, ◌∙◌}
+use mathlib.Core.Path.{◌≡◌, ap}
 use mathlib.Core.List.{List}
-use mathlib.Core.Bool.{Bool, true, cond, ◌&&◌}
-use Prim.Native.Nat.{ℕ, ◌+◌, ◌≤◌, ◌<◌}
+use mathlib.Core.Bool.{Bool, true, cond}
+use Prim.Native.Nat.{ℕ, ◌≤◌, ◌<◌}
 use native.Mathlib.Omega.{arith}
-use lib.ListN.{length, get_or}
-use lib.Dec.{ltb, leb, eqb}
+use lib.ListN.{length}
+use lib.Dec.{ltb}
 use borrow.Author.Tests.{lt-ltb, le-ltb}
-use Rattle.laws.proofs.Booleans.{and_left, and_right}
 use Rattle.refusals.specs.Refusals.{Refusal}
 use Rattle.refusals.specs.Answers.{Answer, refused, accepted}
-use Rattle.image.specs.Bytes.{be16, be32}
-use Rattle.image.specs.Read.{Read, got, bad, bind, Tree, Image, header, width_bytes, comments, record_at, tree_at, read_tree, read_image, step_of, outcome}
+use Rattle.image.specs.Bytes.{be16}
+use Rattle.image.specs.Read.{Read, got, bad, bind, Tree, Image, width_bytes, header_fits, comments, record_at, tree_at, read_tree, read_image, step_of, outcome}
 use Rattle.image.specs.declared.Document.{Document}
-
-pub header_version : (b : List ℕ) → header b ≡ true → eqb (get_or b 0 0) 1 ≡ true
-unfolding header
-header_version b e =
-    let t₁ = leb 5 (length b) in
-    let t₂ = eqb (get_or b 0 0) 1 in
-    let t₃ = eqb (5 + be32 b 1) (length b) in
-    and_right t₁ t₂ (and_left (t₁ && t₂) t₃ (and_left (t₁ && t₂ && t₃) (leb (be32 b 1) 1048576) e))
 
 -- a refusal, by its number and place
 abbrev pub wrong : ℕ → ℕ → Answer Document
@@ -68,11 +59,13 @@ then_next : (q : ℕ) (f : ℕ → Read Image) (r : Read Unit) → step_of r ≡
 then_next q f (got t k) e = let same : k ≡ q = cc in ap f same
 then_next q f (bad k p) e = let z : ◌≡◌ {A = ℕ} 0 1 = cc in absurd (omega arith)
 
-module _ (ordered : Bool) (s b : List ℕ) where
-  pub image_bad : (x : Refusal) → header b ≡ true → step_of (comments ordered s b) ≡ refused x → outcome (read_image ordered s b) ≡ refused x
+module _ (may : ℕ → Bool) (ordered : Bool) (s b : List ℕ) where
+  pub image_bad : (x : Refusal) → header_fits may b ≡ true → step_of (comments ordered s b) ≡ refused x
+      → outcome (read_image may ordered s b) ≡ refused x
   unfolding read_image
-  image_bad x h e = rw h (then_bad x (read_tree s b (width_bytes (get_or b 0 0))) (comments ordered s b) e)
+  image_bad x h e = rw h (then_bad x (read_tree s b (width_bytes b)) (comments ordered s b) e)
 
-  pub image_next : (q : ℕ) → header b ≡ true → step_of (comments ordered s b) ≡ accepted q → read_image ordered s b ≡ read_tree s b 2 q
+  pub image_next : (q : ℕ) → header_fits may b ≡ true → step_of (comments ordered s b) ≡ accepted q
+      → read_image may ordered s b ≡ read_tree s b (width_bytes b) q
   unfolding read_image
-  image_next q h e = rw h (then_next q (read_tree s b (width_bytes (get_or b 0 0))) (comments ordered s b) e ∙ rw (header_version b h))
+  image_next q h e = rw h (then_next q (read_tree s b (width_bytes b)) (comments ordered s b) e)

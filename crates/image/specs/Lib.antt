@@ -8,3 +8,4 @@ pub mod Unpacked
 pub mod Read
 pub mod Open
 pub mod Write
+pub mod Standing

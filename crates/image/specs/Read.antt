@@ -1,6 +1,6 @@
 -- What a source and an image read as: document 01, "The tree image", and refusals 1 to 7 of "When a call is turned down".
 -- s is the source and b the image. An offset `at` counts from b's first byte.
-use Rattle.std.specs.Prelude.{◌≡◌, List, [], ◌∷◌, Bool, true, false, cond, not, ◌&&◌, ℕ, zero, suc, ◌+◌, ◌*◌, length}
+use Rattle.std.specs.Prelude.{◌≡◌, List, [], ◌∷◌, Bool, true, false, cond, not, ◌&&◌, ◌||◌, ℕ, zero, suc, ◌+◌, ◌*◌, length}
 use Rattle.std.specs.Prelude.{get_or, ltb, leb, eqb, Option, None, Some, Result}
 use Rattle.refusals.specs.Refusals.{Refusal, is_one_of}
 use Rattle.refusals.specs.Answers.{Answer, refused, accepted}
@@ -50,14 +50,31 @@ abbrev pub bind : {A B : Type 0} → Read A → (A → ℕ → Read B) → Read 
 bind (got a n) k = k a n
 bind (bad n p) k = bad n p
 
--- ---- refusal 3
--- five bytes at least, version 1, the length of the bytes that follow, and no more of them than allowed
-unfoldable pub header : List ℕ → Bool
-header b = leb 5 (length b) && eqb (get_or b 0 0) 1 && eqb (5 + be32 b 1) (length b) && leb (be32 b 1) MAX_BODY
+-- ---- the version
+-- "One version byte"
+abbrev pub version : List ℕ → ℕ
+version b = get_or b 0 0
 
--- how many bytes a text's width has, by the image's version: two in version 1
-abbrev pub width_bytes : ℕ → ℕ
-width_bytes version = cond (eqb version 1) 2 0
+-- how many bytes a text's width has: two in version 1, none in version 2
+unfoldable pub width_bytes : List ℕ → ℕ
+width_bytes b = cond (eqb (version b) 1) 2 0
+
+-- the width of the text at `at`, as it is stored; 0 where it isn't
+unfoldable pub stored_width : List ℕ → ℕ → ℕ
+stored_width b at = cond (eqb (version b) 1) (be16 b (at + 13)) 0
+
+-- ---- refusal 3
+-- five bytes at least, version 1 or 2, the length of the bytes that follow, and no more of them than allowed
+unfoldable pub header : List ℕ → Bool
+header b = leb 5 (length b) && (eqb (version b) 1 || eqb (version b) 2) && eqb (5 + be32 b 1) (length b) && leb (be32 b 1) MAX_BODY
+
+-- the versions that an entry reads, where it names none: 1
+abbrev pub any_version : ℕ → Bool
+any_version = eqb 1
+
+-- no refusal 3, where the version must be one that may be read
+abbrev pub header_fits : (ℕ → Bool) → List ℕ → Bool
+header_fits may b = header b && may (version b)
 
 -- ---- refusal 7
 -- the pair at `at` is a comment: not empty or reversed, in the source and on boundaries; it starts at `least` or after it
@@ -152,19 +169,28 @@ read_tree s b v at =
     bind (tree_at s b v 1 at)
     (λ t next. cond (ltb next (length b)) (bad 4 next) (got (record { comments = be16 b 5; tree = t; at = at }) next))
 
--- refusals 3, 7, then 4, 5 and 6: the header, the comments, the tree
-unfoldable pub read_image : Bool → List ℕ → List ℕ → Read Image
-read_image ordered s b =
-    cond (not (header b)) (bad 3 0)
-    (bind (comments ordered s b) (λ done at. read_tree s b (width_bytes (get_or b 0 0)) at))
+-- refusals 3, 7, then 4, 5 and 6: the header, the comments, the tree; of the versions that may be read, the comments in order or not
+unfoldable pub read_image : (ℕ → Bool) → Bool → List ℕ → List ℕ → Read Image
+read_image may ordered s b =
+    cond (not (header_fits may b)) (bad 3 0)
+    (bind (comments ordered s b) (λ done at. read_tree s b (width_bytes b) at))
 
 -- no refusal 1
 unfoldable pub source_fits : List ℕ → Bool
 source_fits s = leb (length s) MAX_SOURCE
 
--- refusals 1 to 7, in the table's order. Comments may overlap and run backwards.
-unfoldable pub read_all : List ℕ → List ℕ → Read Image
-read_all s b = cond (not (source_fits s)) (bad 1 0) (cond (not (well_formed s)) (bad 2 (prefix s)) (read_image false s b))
+-- refusals 1 to 7, in the table's order
+unfoldable pub read_with : (ℕ → Bool) → Bool → List ℕ → List ℕ → Read Image
+read_with may ordered s b =
+    cond (not (source_fits s)) (bad 1 0) (cond (not (well_formed s)) (bad 2 (prefix s)) (read_image may ordered s b))
+
+-- one version alone
+abbrev pub read_version : ℕ → Bool → List ℕ → List ℕ → Read Image
+read_version n = read_with (eqb n)
+
+-- Comments may overlap and run backwards.
+abbrev pub read_all : List ℕ → List ℕ → Read Image
+read_all = read_with any_version false
 
 -- ---- the answer of `check`
 -- the number of comments, and the tree's offset

@@ -1,5 +1,5 @@
 -- The bytes that a tree is written as.
-use Rattle.std.specs.Prelude.{List, [], ◌∷◌, ◌++◌, ℕ, ◌+◌, ◌/◌, ◌%◌, length}
+use Rattle.std.specs.Prelude.{List, [], ◌∷◌, ◌++◌, ℕ, ◌+◌, ◌/◌, ◌%◌, ◌<◌, length, get_or}
 use Rattle.image.specs.Bytes.{part}
 use Rattle.image.specs.Read.{Tree, Trees, absent, node, nil, ◌▸◌}
 
@@ -14,6 +14,14 @@ mutual
     ◌next◌ : Plain → Plains → Plains
 
 infixr 40 ◌next◌
+-- the elements are bytes
+abbrev pub Bytes : List ℕ → Type 0
+Bytes l = (i : ℕ) → get_or l i 0 < 256
+
+-- a number below 2^16 in two bytes, big-endian
+abbrev pub bytes2 : ℕ → List ℕ
+bytes2 n = (n / 256) ∷ (n % 256) ∷ []
+
 -- a number below 2^32 in four bytes, big-endian
 abbrev pub bytes4 : ℕ → List ℕ
 bytes4 n = (n / 16777216) ∷ (n / 65536 % 256) ∷ (n / 256 % 256) ∷ (n % 256) ∷ []

@@ -7,7 +7,6 @@ ghost use Rattle.image.specs.KindNumbers.{kind_number};
 ghost use Rattle.image.specs.Places.{due_number, place_number, row_number};
 
 use crate::kinds::Kind;
-use crate::sizes::WIDTH;
 use Place::{Many, One, Optional};
 
 // What may stand where a child is due: a record of one kind, or of one of several.
@@ -269,14 +268,22 @@ pub fn is_text(image: &[u8], from: usize, to: usize) -> bool
     text::utf8::check(&image[from..to]).is_ok()
 }
 
-// Whether what follows the span, from `from` to `stop`, starts with a payload right for a record of this kind that stands there.
+// Whether what follows the span, from `from` to `stop`, starts with a payload right for a record of this kind that stands
+// there; a text's width has `width` bytes.
 #[tactic(auto, unfolding(crate::specs::Grammar::payload_fits))]
-pub(crate) fn payload_fits(image: &[u8], due: Due, kind: Kind, from: usize, stop: usize) -> bool
+pub(crate) fn payload_fits(
+    image: &[u8],
+    width: usize,
+    due: Due,
+    kind: Kind,
+    from: usize,
+    stop: usize,
+) -> bool
     requires { (from ≤ stop) × (stop ≤ length image.now) }
-    ensures { result ≡ payload_fits image.now 2 (due_number due) (kind_number kind) from stop }
+    ensures { result ≡ payload_fits image.now width (due_number due) (kind_number kind) from stop }
 {
     if kind.is_text() {
-        return WIDTH <= stop - from && is_text(image, from + WIDTH, stop);
+        return width <= stop - from && is_text(image, from + width, stop);
     }
     if kind.has_byte() {
         return from < stop && image[from] <= due.top_byte(kind);

@@ -9,9 +9,10 @@ pub mod limits;
 mod reader;
 mod records;
 pub mod sizes;
+pub mod width;
 
 ghost use Rattle.std.specs.Prelude.{◌≡◌, false, ◌≤◌, length};
-ghost use Rattle.image.specs.Read.{source_fits, header, read_tree, read_image, outcome, Checks};
+ghost use Rattle.image.specs.Read.{any_version, width_bytes, source_fits, header_fits, read_tree, read_image, outcome, Checks};
 ghost use Rattle.refusals.specs.Reasons.{answer_of};
 
 use bytes::{num16, num32};
@@ -21,6 +22,7 @@ use limits::{MAX_BODY, MAX_RECORDS_DEEP, MAX_SOURCE};
 use reader::Reader;
 use refusals::{Reason, Refused};
 use sizes::HEADER;
+use width::width_bytes;
 
 // A source and an image that are accepted: how many comments there are, and where the tree stands.
 #[derive(Clone, Copy, Debug, PartialEq, Eq)]
@@ -40,7 +42,7 @@ pub fn source_fits(source: &[u8]) -> bool
 // Whether the image has a header that is right: refusal 3 where it hasn't.
 #[tactic(auto, unfolding(crate::specs::Read::header))]
 pub fn header_fits(image: &[u8]) -> bool
-    ensures { result ≡ header image.now }
+    ensures { result ≡ header_fits any_version image.now }
 {
     if image.len() < HEADER || image[0] != 1 {
         return false;
@@ -51,11 +53,12 @@ pub fn header_fits(image: &[u8]) -> bool
 
 fn read_tree(source: &[u8], image: &[u8], at: usize) -> Result<Document, Refused>
     requires { (7 ≤ at) × (at ≤ length image.now) }
-    ensures { answer_of (λ d. d) result ≡ outcome (read_tree source.now image.now 2 at) }
+    ensures { answer_of (λ d. d) result ≡ outcome (read_tree source.now image.now (width_bytes image.now) at) }
 {
     let reader = Reader {
         source,
         image,
+        width: width_bytes(image),
         left: MAX_RECORDS_DEEP,
         at,
         end: image.len(),
@@ -72,7 +75,7 @@ fn read_tree(source: &[u8], image: &[u8], at: usize) -> Result<Document, Refused
 
 #[tactic(auto, unfolding(crate::specs::Read::read_image))]
 fn read_image(source: &[u8], image: &[u8]) -> Result<Document, Refused>
-    ensures { answer_of (λ d. d) result ≡ outcome (read_image false source.now image.now) }
+    ensures { answer_of (λ d. d) result ≡ outcome (read_image any_version false source.now image.now) }
 {
     if !header_fits(image) {
         return Err(Reason::Header.at(0));
@@ -82,7 +85,7 @@ fn read_image(source: &[u8], image: &[u8]) -> Result<Document, Refused>
 }
 
 // Accepts a source and an image, or refuses them.
-#[tactic(auto, unfolding(crate::specs::Read::read_all))]
+#[tactic(auto, unfolding(crate::specs::Read::read_with))]
 pub fn check(source: &[u8], image: &[u8]) -> Result<Document, Refused>
     ensures { Checks source.now image.now result }
 {

@@ -13,7 +13,7 @@ use crate::bytes::num32;
 use crate::grammar::{Due, Place, after_row, first_child, is_over, is_text, payload_fits};
 use crate::kinds::Kind;
 use crate::reader::Reader;
-use crate::sizes::{HEAD, LENGTH, WIDTH};
+use crate::sizes::{HEAD, LENGTH};
 use refusals::{Reason, Refused};
 
 // A record whose children are to be read: where they start, where they stop, and their places.
@@ -29,7 +29,7 @@ impl Reader<'_> {
     #[tactic(auto, unfolding(crate::specs::Read::shape))]
     fn shaped_kind(&self, due: Due) -> Option<Kind>
         ensures { result
-            ≡ cond (shape self.now.image.now 2 (due_number due) self.now.at self.now.end) (kind_of (kind_at self.now.image.now self.now.at)) None }
+            ≡ cond (shape self.now.image.now self.now.width (due_number due) self.now.at self.now.end) (kind_of (kind_at self.now.image.now self.now.at)) None }
     {
         if self.end - self.at < LENGTH {
             return None;
@@ -43,7 +43,15 @@ impl Reader<'_> {
             return None;
         }
         let kind = Kind::of(byte)?;
-        payload_fits(self.image, due, kind, self.at + HEAD, self.at + LENGTH + n).then_some(kind)
+        payload_fits(
+            self.image,
+            self.width,
+            due,
+            kind,
+            self.at + HEAD,
+            self.at + LENGTH + n,
+        )
+        .then_some(kind)
     }
 
     // Whether length 0 stands alone here, at a place that may be empty.
@@ -57,17 +65,21 @@ impl Reader<'_> {
     // Whether the record here is a text, not too short, that ends in time.
     #[tactic(auto, unfolding(crate::specs::Read::shape, crate::specs::Grammar::kind_fits_of, crate::specs::Grammar::payload_fits))]
     fn text_fits(&self) -> bool
-        ensures { result ≡ shape self.now.image.now 2 TEXT self.now.at self.now.end }
+        ensures { result ≡ shape self.now.image.now self.now.width TEXT self.now.at self.now.end }
     {
         if self.end - self.at < LENGTH {
             return false;
         }
         let n = num32(self.image, self.at);
-        if n < 9 + WIDTH || self.end < self.at + LENGTH + n {
+        if n < 9 + self.width || self.end < self.at + LENGTH + n {
             return false;
         }
         self.image[self.at + LENGTH] == Kind::Text as u8
-            && is_text(self.image, self.at + HEAD + WIDTH, self.at + LENGTH + n)
+            && is_text(
+                self.image,
+                self.at + HEAD + self.width,
+                self.at + LENGTH + n,
+            )
     }
 
     // Whether the span of the record here is one of the source.
@@ -86,7 +98,7 @@ impl Reader<'_> {
     fn go_to(&mut self, at: usize)
         requires { at ≤ self.old.end }
         ensures same { (self.new.source.now ≡ self.old.source.now) × (self.new.image.now ≡ self.old.image.now) }
-        ensures rest { (self.new.left ≡ self.old.left) × (self.new.at ≡ at) × (self.new.end ≡ self.old.end) }
+        ensures rest { (self.new.left ≡ self.old.left) × (self.new.at ≡ at) × (self.new.end ≡ self.old.end) × (self.new.width ≡ self.old.width) }
     {
         self.at = at;
     }
@@ -163,6 +175,7 @@ impl Reader<'_> {
         let inner = Reader {
             source: self.source,
             image: self.image,
+            width: self.width,
             left: self.left - 1,
             at: o.first,
             end: o.stop,

@@ -1,6 +1,6 @@
 -- Laws of declarations: their forms by the kind byte, their optional parts, and declarations one after the other.
 -- Assumes nothing.
-use mathlib.Core.Path.{◌≡◌, refl, sym, subst, ◌∙◌}
+use mathlib.Core.Path.{◌≡◌, refl, sym, ap, subst, ◌∙◌}
 use mathlib.Core.Bool.{Bool, true, false}
 use mathlib.Core.List.{List, [], ◌∷◌}
 use Rattle.std.specs.Prelude.{Option, None, Some}
@@ -9,8 +9,8 @@ use native.Mathlib.Omega.{arith}
 use lib.ListN.{length}
 use lib.Dec.{eqb}
 use Rattle.text.specs.Space.{trim_end}
-use Rattle.image.specs.Bytes.{be16, be32}
-use Rattle.image.specs.Read.{stop_at, kind_at}
+use Rattle.image.specs.Bytes.{be32}
+use Rattle.image.specs.Read.{width_bytes, stored_width, stop_at, kind_at}
 use Rattle.ast.specs.Syntax.{Ident, Idents, TypeExpr, Import, import, Declaration, filter_map, const, record_decl, enum_decl, function, test, import_decl}
 use Rattle.tree.specs.At.{IdentAt, IdentsAt, ListAt, Maybe, TypeAt, ImportAt, DeclarationAt, DeclarationsAt}
 use Rattle.rows.specs.Node.{str, empty_line}
@@ -202,14 +202,15 @@ module _ {s b : List ℕ} {at : ℕ} where
       go (Some i) a room = record { accepted = h.accepted; tree = i; held = a; room = room }
 
   -- the rows of a shebang by the numbers of its record
-  pub shebang_same : {w f n : ℕ} {i : Ident} → IdentAt s b i at → w ≡ be16 b (at + 13) → f ≡ at + 15 → n ≡ trim_end b f (stop_at b at) - f
+  pub shebang_same : {v w f n : ℕ} {i : Ident} → IdentAt s b i at → w ≡ stored_width b at → v ≡ width_bytes b → f ≡ at + 13 + v
+      → n ≡ trim_end b f (stop_at b at) - f
       → (push (str w (text 1 f n)) ⨟ push empty_line) ≡ shebang_rule (given s b) (Some i)
   unfolding shebang_rule
-  shebang_same {w} {f} {n} {i} a p q r =
-      let h : f ≡ i.start = q ∙ a.starts in
+  shebang_same {v} {w} {f} {n} {i} a p e q r =
+      let h : f ≡ i.start = q ∙ ap (λ (x : ℕ). at + 13 + x) e ∙ a.starts in
       let k : n ≡ trim_end b i.start (i.start + i.size) - i.start = r ∙ rw (h, a.ends) in
-      let v : w ≡ i.width = p ∙ a.wide in
-      rw (v, k, h)
+      let wide : w ≡ i.width = p ∙ a.wide in
+      rw (wide, k, h)
 
   pub no_shebang : {x : List ℕ} {c : Cursor} → be32 b at ≡ 0 → LaysAs MaybeIdentAt shebang_rule s b at x c x c
   unfolding Maybe shebang_rule
@@ -219,15 +220,15 @@ module _ {s b : List ℕ} {at : ℕ} where
       go None a = lays_skip
       go (Some i) a = absurd (omega (arith, e, a.head.long))
 
-  pub some_shebang : {w f n : ℕ} {x y z : List ℕ} {c d e : Cursor} → (be32 b at ≡ 0 → ⊥) → w ≡ be16 b (at + 13) → f ≡ at + 15
+  pub some_shebang : {v w f n : ℕ} {x y z : List ℕ} {c d e : Cursor} → (be32 b at ≡ 0 → ⊥) → w ≡ stored_width b at → v ≡ width_bytes b → f ≡ at + 13 + v
       → n ≡ trim_end b f (stop_at b at) - f → Lays (push (str w (text 1 f n))) x c y d → Lays (push empty_line) y d z e
       → LaysAs MaybeIdentAt shebang_rule s b at x c z e
   unfolding Maybe
-  some_shebang {w} {f} {n} {x} {y} {z} {c} {d} {e} g p q r l m = record { of = go }
+  some_shebang {v} {w} {f} {n} {x} {y} {z} {c} {d} {e} g p o q r l m = record { of = go }
     where
       go : (i : Option Ident) → MaybeIdentAt s b i at → Lays (shebang_rule (given s b) i) x c z e
       go None a = absurd (g a.zero)
-      go (Some i) a = subst (λ (v : Act). Lays v x c z e) (shebang_same a p q r) (lays_then l m)
+      go (Some i) a = subst (λ (v : Act). Lays v x c z e) (shebang_same a p o q r) (lays_then l m)
 
 -- ---- declarations one after the other
 pub record MoreDeclarations (first : Bool) (s b : List ℕ) (p to : ℕ) (c : Cursor) : Type 0 where

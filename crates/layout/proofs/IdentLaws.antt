@@ -1,13 +1,12 @@
 -- Laws of identifiers one after the other, and of an identifier's text.
 -- Assumes nothing.
-use mathlib.Core.Path.{◌≡◌, sym, subst, ◌∙◌}
+use mathlib.Core.Path.{◌≡◌, sym, ap, subst, ◌∙◌}
 use mathlib.Core.Bool.{Bool}
 use mathlib.Core.List.{List, [], ◌∷◌}
 use Prim.Native.Nat.{ℕ, ◌+◌, ◌-◌, ◌≤◌, ◌<◌}
 use native.Mathlib.Omega.{arith}
 use lib.ListN.{length}
-use Rattle.image.specs.Bytes.{be16}
-use Rattle.image.specs.Read.{stop_at}
+use Rattle.image.specs.Read.{width_bytes, stored_width, stop_at}
 use Rattle.ast.specs.Syntax.{Ident}
 use Rattle.tree.specs.At.{IdentAt, IdentsAt}
 use Rattle.rows.specs.Node.{str}
@@ -23,13 +22,14 @@ use Rattle.layout.specs.Promises.{Readable, HasIn, HasAllIn}
 use Rattle.layout.proofs.Lays.{LaysAll, LaysAs}
 
 -- the text that the numbers of its record say
-module _ {s b : List ℕ} {at w f n : ℕ} {i : Ident} (a : IdentAt s b i at) (p : w ≡ be16 b (at + 13)) (q : f ≡ at + 15) (r : n ≡ stop_at b at - f) where
+module _ {s b : List ℕ} {at v w f n : ℕ} {i : Ident} (a : IdentAt s b i at)
+    (p : w ≡ stored_width b at) (e : v ≡ width_bytes b) (q : f ≡ at + 13 + v) (r : n ≡ stop_at b at - f) where
   same : push (str w (text 1 f n)) ≡ ident (given s b) i
   same =
-      let e : w ≡ i.width = p ∙ a.wide in
-      let h : f ≡ i.start = q ∙ a.starts in
+      let wide : w ≡ i.width = p ∙ a.wide in
+      let h : f ≡ i.start = q ∙ ap (λ (x : ℕ). at + 13 + x) e ∙ a.starts in
       let k : n ≡ i.size = omega (arith, a.ends, a.starts) in
-      rw (e, h, k)
+      rw (wide, h, k)
 
   pub ident_room : {c : Cursor} → Room (ident (given s b) i) c → Room (push (str w (text 1 f n))) c
   ident_room {c} room = subst (λ (z : Act). Room z c) (sym same) room

@@ -8,8 +8,7 @@ ghost use Rattle.layout.specs.Layout.{opening, some_type_params, return_type, sh
 ghost use Rattle.layout.specs.Promises.{Has, LaidAs, HasAll, LaidAll};
 ghost use Rattle.layout.specs.Elems.{VariantAt, variant_rule};
 ghost use Rattle.layout.specs.Forms.{two, three, four, five, OfDeclaration, declaration_rule, any_declaration, declares_at, MaybeListAt};
-ghost use Rattle.layout.specs.Forms.{TypeNameAt, declares_type, FunctionNameAt, declares_function};
-ghost use Rattle.layout.specs.Forms.{MaybeTypeAt, MaybeIdentAt, declarations_from};
+ghost use Rattle.layout.specs.Forms.{TypeNameAt, declares_type, FunctionNameAt, declares_function, MaybeTypeAt, MaybeIdentAt, declarations_from};
 
 use crate::forms::{BRACES, ListForm, WrapStyle};
 use crate::idents::type_params;
@@ -26,8 +25,8 @@ use acts::leaves::Leaf;
 use acts::words::Word;
 use comments::parsed::Parsed;
 use comments::{Kept, pop_whitespace};
-use image::bytes::num16;
-use image::sizes::{HEAD, WIDTH};
+use image::sizes::HEAD;
+use image::width::{stored_width, width_bytes};
 use rows::units::{Bytes, Columns};
 use text::space::trim_end;
 
@@ -211,8 +210,8 @@ pub fn shebang(state: &mut State<'_>, parsed: &Parsed<'_>, at: usize)
     if parsed.is_absent(at) {
         return;
     }
-    let from = at + (HEAD + WIDTH);
-    let width = Columns(num16(image, at + HEAD));
+    let from = at + HEAD + width_bytes(image);
+    let width = Columns(stored_width(image, at));
     let size = Bytes(trim_end(image, from, parsed.past(at)) - from);
     state.push(Leaf::Str {
         start: from as u32,

@@ -16,8 +16,8 @@ use acts::parts::Branch;
 use acts::words::Word;
 use comments::parsed::Parsed;
 use comments::{Kept, pop_trailing_comment};
-use image::bytes::num16;
-use image::sizes::{HEAD, WIDTH};
+use image::sizes::HEAD;
+use image::width::{stored_width, width_bytes};
 use rows::units::{Bytes, Columns};
 
 // `Node::ident`: the text at `at`, with its width.
@@ -26,8 +26,8 @@ pub(crate) fn ident(state: &mut State<'_>, parsed: &Parsed<'_>, at: usize)
     ensures { LaidAs IdentAt ident parsed.now at state.old state.new }
 {
     let image = parsed.image;
-    let from = at + (HEAD + WIDTH);
-    let width = Columns(num16(image, at + HEAD));
+    let from = at + HEAD + width_bytes(image);
+    let width = Columns(stored_width(image, at));
     let size = Bytes(parsed.past(at) - from);
     state.push(Leaf::Str {
         start: from as u32,

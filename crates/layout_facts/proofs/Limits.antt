@@ -10,6 +10,7 @@ use native.Mathlib.Omega.{arith}
 use lib.ListN.{length}
 use Rattle.text.specs.Utf8.{well_formed}
 use Rattle.text.proofs.Counts.{range_inside}
+use Rattle.image.specs.Read.{width_bytes}
 use Rattle.image.proofs.Accepted.{Root}
 use Rattle.ast.specs.Syntax.{Declaration, SyntaxTree}
 use Rattle.tree.specs.At.{past, DeclarationsAt}
@@ -52,8 +53,9 @@ commented {s} formed l =
       formed = formed;
     }
 
-pub stands : (ordered : Bool) (s b : List ℕ) (n at : ℕ) → well_formed s ≡ true → (r : Root ordered s b n at) → Stands (given s b) (syntax_tree b r.tree) at
-stands ordered s b n at formed r =
+pub stands : (may : ℕ → Bool) (ordered : Bool) (s b : List ℕ) (n at : ℕ) → well_formed s ≡ true
+    → (r : Root may ordered s b n at) → Stands (given s b) (syntax_tree b r.tree) at
+stands may ordered s b n at formed r =
     let l : Listed s b =
     record {
       few = r.list.few;
@@ -63,8 +65,8 @@ stands ordered s b n at formed r =
     }
     in
     record {
-      tree = root_at s b ordered n at r;
-      high = accepted_high s b 2 1 at r.tree (length b) r.reads;
+      tree = root_at s b may ordered n at r;
+      high = accepted_high s b (width_bytes b) 1 at r.tree (length b) r.reads;
       comments = commented formed l;
       count = omega (arith, count_of b, r.list.few);
       place = omega (arith, count_of b, r.count, r.place);

@@ -17,7 +17,7 @@ use Rattle.text.proofs.Counts.{range_inside, range_start}
 use Rattle.text.proofs.Cuts.{uncut, text_range, trimmed_formed}
 use Rattle.text.proofs.Parts.{between, well_formed_between}
 use Rattle.image.specs.Bytes.{be32, part}
-use Rattle.image.specs.Read.{stop_at}
+use Rattle.image.specs.Read.{width_bytes, stop_at}
 use Rattle.ast.specs.Syntax.{Span, Ident, Path, Idents, TypeExpr, type, TypeForm, option, type_path, never, unit, record_type, TypeArgs, no_args, args}
 use Rattle.ast.specs.Syntax.{Types, no_types, ◌∷ᵗ◌, Fields, no_fields, field, Import, import, ImportGroup, no_group, group, Imports, no_imports, ◌∷ⁱ◌}
 use Rattle.ast.specs.Syntax.{Pattern, underscore, enum_variant}
@@ -79,7 +79,7 @@ pub from_start : {s : List ℕ} {p : Span} → Ranged s p → p.start ≤ length
 from_start r = omega (arith, r.ordered, r.fits)
 
 pub supplied : {g : Given} {at : ℕ} {i : Ident} (t : Text) → IdentAt g.source g.image i at → Supplied g (g.columns i.width t) t
-supplied {g} {at} t a = record { at = at + 13; same = ap (λ (n : ℕ). g.columns n t) (sym a.wide) }
+supplied {g} {at} t a = record { at = at; same = ap (λ (n : ℕ). g.columns n t) (sym a.wide) }
 
 -- a text of the image is a range of it, though the image isn't UTF-8
 module _ {s b : List ℕ} {i : Ident} {at : ℕ} (a : IdentAt s b i at) where
@@ -87,7 +87,7 @@ module _ {s b : List ℕ} {i : Ident} {at : ℕ} (a : IdentAt s b i at) where
   unfolding boundary
   ends_clear = rw a.ends (rw (le-leb (stop_at b at) (length b) a.head.fits, a.clear.starts))
 
-  same_part : between b i.start (i.start + i.size) ≡ part (at + 15) (stop_at b at) b
+  same_part : between b i.start (i.start + i.size) ≡ part (at + 13 + width_bytes b) (stop_at b at) b
   same_part =
       ap (λ (n : ℕ). part i.start n b) a.ends ∙ ap (λ (n : ℕ). part n (stop_at b at) b) (sym a.starts)
 

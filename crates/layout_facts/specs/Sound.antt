@@ -4,7 +4,7 @@ use Rattle.std.specs.Prelude.{ℕ, ◌+◌, ◌*◌, ◌-◌, ◌≤◌, ◌≡�
 use Prim.Native.String.{String}
 use Rattle.text.specs.Utf8.{well_formed, cuts}
 use Rattle.text.specs.Newlines.{is_range}
-use Rattle.image.specs.Bytes.{be16}
+use Rattle.image.specs.Read.{stored_width}
 use Rattle.ast.specs.Syntax.{Span}
 use Rattle.rows.specs.Node.{Text, Node, Nodes, group, indent, indent_next, wrap_parent, comment, str, ascii, line, empty_line, line_or_space, if_wrap, call}
 use Rattle.rows.specs.Node.{none, ◌then◌}
@@ -31,10 +31,10 @@ pub record Inside (g : Given) (t : Text) : Type 0 where
   pub formed : well_formed (take t.size (drop t.start (origin_of g t))) ≡ true
   pub uncut : cuts (origin_of g t) t.start ≡ false
 
--- a text of the image measures what `columns` makes of the width that the image supplies, in two of its bytes
+-- a text of the image measures what `columns` makes of the width that the image supplies
 pub record Supplied (g : Given) (w : ℕ) (t : Text) : Type 0 where
   pub at : ℕ
-  pub same : w ≡ g.columns (be16 g.image at) t
+  pub same : w ≡ g.columns (stored_width g.image at) t
 
 -- each text of a node and of nodes lies there, and each width is supplied
 unfoldable mutual

@@ -10,7 +10,7 @@ use borrow.Author.Tests.{lt-leb}
 use lib.ListN.{length, take, length-take}
 use lib.Seq.{take_all}
 use Rattle.image.specs.Limits.{MAX_SOURCE, MAX_BODY}
-use Rattle.image.specs.Read.{Read, bad, Image, header, read_image, source_fits, read_all, outcome}
+use Rattle.image.specs.Read.{Read, bad, Image, any_version, header_fits, read_image, source_fits, read_with, read_all, outcome}
 use Rattle.image.proofs.Accepted.{headed}
 use Rattle.refusals.specs.Reasons.{number_of}
 use Rattle.refusals.specs.declared.Refused.{Refused}
@@ -29,7 +29,7 @@ refused_alike s b s2 b2 t w e f = sym (check_refused s b t w (ap outcome e)) ∙
 
 -- ---- a source that is too long
 too_long : (s b : List ℕ) → MAX_SOURCE < length s → read_all s b ≡ bad 1 0
-unfolding read_all source_fits
+unfolding read_with source_fits
 too_long s b h = rw (lt-leb (length s) MAX_SOURCE h)
 
 long_source : (s b b2 : List ℕ) (t : Tallies) → SOURCE_KEPT < length s → count_answer (take SOURCE_KEPT s) b2 t ≡ count_answer s b t
@@ -43,15 +43,15 @@ long_source s b b2 t h =
 abbrev Sourced : Bool → Bool → ℕ → Read Image
 Sourced fits formed p = cond (not fits) (bad 1 0) (cond (not formed) (bad 2 p) (bad 3 0))
 
-no_header : (b : List ℕ) → 5 + MAX_BODY < length b → header b ≡ false
-no_header b h = go (header b) refl
+no_header : (b : List ℕ) → 5 + MAX_BODY < length b → header_fits any_version b ≡ false
+no_header b h = go (header_fits any_version b) refl
   where
-    go : (x : Bool) → header b ≡ x → x ≡ false
+    go : (x : Bool) → header_fits any_version b ≡ x → x ≡ false
     go false e = refl
-    go true e = absurd (omega (arith, (headed b e).size, (headed b e).short))
+    go true e = absurd (omega (arith, (headed any_version b e).size, (headed any_version b e).short))
 
 sourced : (s b : List ℕ) → 5 + MAX_BODY < length b → read_all s b ≡ Sourced (source_fits s) (well_formed s) (prefix s)
-unfolding read_all read_image
+unfolding read_with read_image
 sourced s b h = rw (no_header b h)
 
 alike_with : (fits formed : Bool) (q : ℕ) (s b b2 : List ℕ) (t : Tallies) → read_all s b ≡ Sourced fits formed q → read_all s b2 ≡ Sourced fits formed q

@@ -1,20 +1,26 @@
 -- The writer accepts the steps of what fits, and takes it for what it is.
 -- Assumes nothing.
 use mathlib.Core.Path.{◌≡◌, refl, ap, ◌∙◌}
+use mathlib.Core.Bool.{true}
 use mathlib.Core.List.{List, [], ◌∷◌, ◌++◌, append_assoc, append-nil}
-use Prim.Native.Nat.{ℕ, zero, suc, ◌+◌, ◌≤◌}
+use Prim.Native.Nat.{ℕ, suc, ◌+◌, ◌≤◌}
 use native.Mathlib.Omega.{arith}
 use lib.ListN.{length, get_or, length-append}
+use lib.Dec.{eqb}
 use borrow.Author.Tests.{le-leb}
+use Rattle.text.specs.Utf8.{well_formed}
+use Rattle.image.specs.Kinds.{TEXT}
 use Rattle.image.specs.Bytes.{be16, be32, part}
 use Rattle.image.specs.Grammar.{top_byte}
 use Rattle.image.specs.Read.{got}
-use Rattle.image.specs.Write.{Plain, Plains, without, plainly, done, ◌next◌, bytes4}
-use Rattle.steps.specs.Steps.{Step, comment_step, open_step, text_step, payload_step, absent_step, close_step, bytes2, step_bytes, list_bytes}
+use Rattle.image.specs.Write.{Plain, Plains, without, plainly, done, ◌next◌, bytes4, bytes2}
+use Rattle.steps.specs.Steps.{Step, comment_step, open_step, text_step, payload_step, absent_step, close_step, step_bytes, list_bytes}
 use Rattle.steps.specs.Steps.{payload_steps, tree_steps, child_steps, COMMENT_STEP, OPEN_STEP, TEXT_STEP, PAYLOAD_STEP, ABSENT_STEP, CLOSE_STEP}
 use Rattle.steps.specs.Writer.{step_from, payload_from, children_from, record_from}
-use Rattle.steps.proofs.Stands.{Stands, stands_within, stands_left, stands_right, stands_part, stands_byte, stands_be32, stands_be16}
-use Rattle.steps.proofs.Fits.{Pays, text, byte, nothing, Fits, fits, FitsRow, ends, gone, here, text_steps, byte_steps, no_steps}
+use Rattle.tree.proofs.ReadsAgain.{turn_left}
+use Rattle.tree.proofs.Stands.{Stands, stands_within, stands_left, stands_right, stands_part, stands_byte, stands_be32, stands_be16}
+use Rattle.tree.proofs.Fits.{Pays, text, byte, nothing, Fits, fits, FitsRow, ends, gone, here}
+use Rattle.steps.proofs.Payloads.{wide, text_steps, byte_steps, no_steps}
 use Rattle.steps.proofs.Views.{closed, absent, opened, turns, opened_as}
 use Rattle.steps.proofs.Taken.{closing, list_append}
 
@@ -61,13 +67,20 @@ first_there l at x xs s =
     (step_there l at x (stands_left (step_bytes x) (list_bytes xs) s), stands_right (step_bytes x) (list_bytes xs) _ refl s)
 
 -- ---- a payload
-pub payload_there : (l : List ℕ) {p kind : ℕ} {x : List ℕ} → Pays p kind x → (at : ℕ) → Stands l at (list_bytes (payload_steps kind x))
-    → payload_from l p kind at ≡ got x (at + length (list_bytes (payload_steps kind x)))
+text_there : (l : List ℕ) (p kind width : ℕ) (x t : List ℕ) → eqb kind TEXT ≡ true → well_formed t ≡ true → x ≡ bytes2 width ++ t → (at : ℕ)
+    → Stands l at (list_bytes (payload_steps kind x)) → payload_from l p kind at ≡ got x (at + length (list_bytes (payload_steps kind x)))
 unfolding payload_from
-payload_there l {p} {kind} {x} (text width t e w is) at s =
+text_there l p kind width x t e w is at s =
     let steps = ap (payload_steps kind) is ∙ text_steps kind width t e in
     let f = first_there l at (text_step width t) [] (rw steps at s) in
     rw (steps, e, f.0, w, is, append-nil t)
+
+pub payload_there : (l : List ℕ) {p kind : ℕ} {x : List ℕ} → Pays 2 p kind x → (at : ℕ) → Stands l at (list_bytes (payload_steps kind x))
+    → payload_from l p kind at ≡ got x (at + length (list_bytes (payload_steps kind x)))
+unfolding payload_from
+payload_there l {p} {kind} {x} (text front t size e w from) at s =
+    let (width, is) = wide x front t size from in
+    text_there l p kind width x t e w is at s
 payload_there l {p} {kind} {x} (byte y e h top is) at s =
     let steps = ap (payload_steps kind) is ∙ byte_steps kind y e h in
     let f = first_there l at (payload_step y) [] (rw steps at s) in
@@ -78,19 +91,14 @@ payload_there l {p} {kind} {x} (nothing e h is) at s =
     rw (steps, e, h, is) (ap (got []) here)
 
 -- ---- children and records
--- a turn is left where a byte is
-pub turn_left : (n : ℕ) → 1 ≤ n → (m : ℕ) × (n ≡ suc m)
-turn_left zero h = absurd (omega arith)
-turn_left (suc m) h = (m, refl)
-
 -- a record is opened by its first step, which has bytes
-pub opens_there : (l : List ℕ) {left p : ℕ} {x : Plain} → Fits left p x → (at : ℕ) → Stands l at (list_bytes (tree_steps x))
+pub opens_there : (l : List ℕ) {left p : ℕ} {x : Plain} → Fits 2 left p x → (at : ℕ) → Stands l at (list_bytes (tree_steps x))
     → (kind : ℕ) × (from : ℕ) × (to : ℕ) × (step_from l at ≡ got (open_step kind from to) (at + 10))
 unfolding tree_steps
 opens_there l (fits {kind = kind} {from = from} {to = to} {x = x} {xs = xs} right order pays row) at s =
     (kind, from, to, (first_there l at (open_step kind from to) (payload_steps kind x ++ (child_steps xs ++ (close_step ∷ []))) s).0)
 
-long : {left p : ℕ} {x : Plain} → Fits left p x → 1 ≤ length (list_bytes (tree_steps x))
+long : {left p : ℕ} {x : Plain} → Fits 2 left p x → 1 ≤ length (list_bytes (tree_steps x))
 unfolding tree_steps
 long (fits right order pays row) = omega arith
 
@@ -104,7 +112,7 @@ closing_next y ys =
 mutual
   unfolding tree_steps
 
-  pub record_there : (l : List ℕ) {left p : ℕ} {x : Plain} → Fits left p x → (at : ℕ) → Stands l at (list_bytes (tree_steps x))
+  pub record_there : (l : List ℕ) {left p : ℕ} {x : Plain} → Fits 2 left p x → (at : ℕ) → Stands l at (list_bytes (tree_steps x))
       → record_from l left p at ≡ got x (at + length (list_bytes (tree_steps x)))
   record_there l (fits {left = left} {p = p} {kind = kind} {from = from} {to = to} {x = x} {xs = xs} right order pays row) at s =
       let pay = payload_steps kind x in
@@ -134,7 +142,7 @@ mutual
         is = refl;
       }))
 
-  pub row_there : (l : List ℕ) {left row : ℕ} {xs : Plains} → FitsRow left row xs → (n at : ℕ) → length (closing xs) ≤ n → Stands l at (closing xs)
+  pub row_there : (l : List ℕ) {left row : ℕ} {xs : Plains} → FitsRow 2 left row xs → (n at : ℕ) → length (closing xs) ≤ n → Stands l at (closing xs)
       → children_from (record_from l left) l n row at ≡ got xs (at + length (closing xs))
   row_there l (ends {left = left} {row = row} c) n at enough s =
       let m = turn_left n (omega arith) in

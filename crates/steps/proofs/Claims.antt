@@ -2,24 +2,29 @@
 -- Assumes nothing.
 use mathlib.Core.Path.{◌≡◌, refl, sym, ap, subst, ◌∙◌}
 use mathlib.Core.Bool.{Bool, true, false, ◌||◌}
+use mathlib.Core.Logic.{inl}
 use mathlib.Core.List.{List, [], ◌∷◌}
 use Prim.Native.Nat.{ℕ, ◌+◌, ◌≤◌}
 use native.Mathlib.Omega.{arith}
-use lib.ListN.{length}
-use lib.Dec.{ltb}
-use borrow.Author.Tests.{ltb-false, le-ltb}
+use lib.ListN.{length, get_or}
+use lib.Dec.{ltb, eqb}
+use borrow.Author.Tests.{ltb-false, le-ltb, eqb-true}
 use Rattle.refusals.specs.Refusals.{first, refuse_if}
 use Rattle.refusals.specs.Answers.{Answer, accepted, answer_by}
 use Rattle.image.specs.Limits.{MAX_BODY}
-use Rattle.image.specs.Read.{Read, got, bad, read_all, read_refusal}
-use Rattle.steps.specs.Steps.{Contents, list_bytes, steps, image_of, contents_of}
+use Rattle.image.specs.Read.{version, Read, got, bad, read_version, read_refusal}
+use Rattle.steps.specs.Steps.{list_bytes, steps}
+use Rattle.tree.specs.Contents.{Contents, image_of, contents_of}
 use Rattle.steps.specs.Writer.{contents_from, image_by}
 use Rattle.steps.specs.OfImage.{steps_of}
-use Rattle.steps.specs.Exact.{Bytes, Turns, ExactlyOne, ReadsBack, WrittenReadsBack}
+use Rattle.steps.specs.Exact.{Turns, ExactlyOne, ReadsBack, WrittenReadsBack}
+use Rattle.image.specs.Write.{Bytes}
 use Rattle.steps.proofs.WholeList.{contents_taken, list_is}
 use Rattle.steps.proofs.WholeAccepted.{contents_there}
-use Rattle.steps.proofs.WholeFits.{read_as, whole_fits, image_is, image_short}
-use Rattle.steps.proofs.WholeAgain.{AgainAll, all_again}
+use Rattle.image.proofs.Versions.{two_bytes}
+use Rattle.tree.proofs.Fits.{FitsAll}
+use Rattle.tree.proofs.WholeFits.{read_as, whole_fits, image_is, image_short}
+use Rattle.tree.proofs.WholeAgain.{AgainAll, all_again}
 
 -- ---- what is turned into an image
 -- the answer for the image y of an accepted list, with room for b
@@ -42,7 +47,7 @@ record Contained (l b : List ℕ) : Type 0 where
   pub contents : Contents
   pub end : ℕ
   pub from : contents_from l ≡ got contents end
-  pub image : image_of contents ≡ b
+  pub image : image_of 1 contents ≡ b
   pub short : length b ≤ 5 + MAX_BODY
 
 -- the answer of the writer by what it takes the list for
@@ -59,9 +64,9 @@ contained l b t = go (contents_from l) refl t.taken t.image
     go : (r : Read Contents) → contents_from l ≡ r → answered r b ≡ accepted (length b) → image_by r ≡ b → Contained l b
     go (bad n p) e a i = let z : ◌≡◌ {A = ℕ} 0 1 = cc in absurd (omega arith)
     go (got c end) e a i =
-        record { contents = c; end = end; from = e; image = i; short = subst (λ (y : List ℕ). length y ≤ 5 + MAX_BODY) i (sized_short (image_of c) b a) }
+        record { contents = c; end = end; from = e; image = i; short = subst (λ (y : List ℕ). length y ≤ 5 + MAX_BODY) i (sized_short (image_of 1 c) b a) }
 
-turns_into : (l b : List ℕ) (c : Contents) (end : ℕ) → contents_from l ≡ got c end → image_of c ≡ b → length b ≤ 5 + MAX_BODY → Turns l b
+turns_into : (l b : List ℕ) (c : Contents) (end : ℕ) → contents_from l ≡ got c end → image_of 1 c ≡ b → length b ≤ 5 + MAX_BODY → Turns l b
 turns_into l b c end e i short =
     record {
       taken = ap (λ (r : Read Contents). answered r b) e ∙ ap (λ (y : List ℕ). sized y b) i ∙ short_sized b short;
@@ -70,10 +75,13 @@ turns_into l b c end e i short =
 
 -- ---- a written image
 module _ (s l b : List ℕ) (small : Bytes l) (t : Turns l b) where
-  again : AgainAll b (contained l b t).contents (read_all s b)
+  again : AgainAll b (contained l b t).contents (read_version 1 false s b)
   again =
       let c = contained l b t in
-      all_again s b c.contents (contents_taken l c.contents c.end c.from).0 c.image c.short
+      let one : version b ≡ 1 = ap (λ (x : List ℕ). get_or x 0 0) (sym c.image) in
+      let fits = subst (λ (v : ℕ). FitsAll v c.contents) (sym (two_bytes b one)) (contents_taken l c.contents c.end c.from).0 in
+      all_again (eqb 1) false s b 1 c.contents
+      (record { known = inl refl; may_be = refl; fits = fits; image = c.image; short = c.short })
 
   pub reads_back : ReadsBack s l b
   reads_back =
@@ -91,9 +99,12 @@ written_reads_back = reads_back
 -- ---- an image that is read
 pub exactly_one : ExactlyOne
 exactly_one s b i end small h =
-    let r = read_as s b i end h in
+    let r = read_as (eqb 1) false s b i end h in
     let c = contents_of b i in
+    let one : version b ≡ 1 = sym (eqb-true 1 (version b) r.root.head.may_be) in
+    let fits = subst (λ (v : ℕ). FitsAll v c) (two_bytes b one) (whole_fits (eqb 1) false s b small i r) in
+    let is : image_of 1 c ≡ b = ap (λ (n : ℕ). image_of n c) (sym one) ∙ image_is (eqb 1) false s b small i r in
     record {
-      turns = turns_into (steps_of b i) b c _ (contents_there c (whole_fits s b small i r)) (image_is s b small i r) (image_short s b small i r);
+      turns = turns_into (steps_of b i) b c _ (contents_there c fits) is (image_short (eqb 1) false s b small i r);
       only = λ l small-l t. sym ((reads_back s l b small-l t).gives i end h);
     }

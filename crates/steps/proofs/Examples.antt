@@ -10,7 +10,7 @@ use Rattle.text.specs.Newlines.{is_range}
 use Rattle.image.specs.Bytes.{be16, be32}
 use Rattle.image.specs.Grammar.{row_of, row_under_of, kind_fits_of, payload_fits, first_child}
 use Rattle.image.specs.Read.{bad, header, comment_fits, comments, shape, opens, children_at, skips}
-use Rattle.image.specs.Read.{record_at, tree_at, read_tree, read_image, source_fits, read_all}
+use Rattle.image.specs.Read.{record_at, tree_at, read_tree, read_image, source_fits, read_with, width_bytes, stored_width, read_all}
 use Rattle.image.specs.Read as Reader
 use Rattle.image.specs.Write.{written, plain}
 use Rattle.tree.specs.CommentList.{pairs_at, comments_of}
@@ -40,7 +40,7 @@ unfolding shebang shebang_steps contents_from comments_from record_from opened_f
 shebang_written = refl
 
 shebang_steps_lem : steps_due [] shebang ≡ shebang_steps
-unfolding shebang shebang_steps read_all source_fits read_image header comments Reader.comments_from comment_fits read_tree tree_at
+unfolding shebang shebang_steps read_with width_bytes stored_width source_fits read_image header comments Reader.comments_from comment_fits read_tree tree_at
     record_at opens shape kind_fits_of
     payload_fits first_child row_under_of row_of children_at skips be16 be32 is_range boundary well_formed prefix run within sequence followed row_in plain
     tree_steps comments_of pairs_at

@@ -1,16 +1,10 @@
-pub mod Took
-pub mod Fits
+pub mod Payloads
 pub mod Views
 pub mod Taken
 pub mod WholeList
 pub mod Sizes
-pub mod Stands
 pub mod Accepts
 pub mod WholeAccepted
-pub mod ReadFits
-pub mod ReadsAgain
-pub mod WholeFits
-pub mod WholeAgain
 pub mod Numbers
 pub mod Claims
 pub mod Examples

@@ -13,10 +13,11 @@ use Rattle.image.specs.Grammar.{Grammar, others, ◌⇒◌∣◌, grammar, is_li
 use Rattle.image.specs.Read.{got}
 use Rattle.image.specs.Write.{Plain, Plains, written, writtens}
 use Rattle.ast.specs.Syntax.{Span}
-use Rattle.steps.specs.Steps.{Step, list_bytes, payload_steps, tree_steps, child_steps, pair_bytes, close_step}
+use Rattle.steps.specs.Steps.{Step, list_bytes, payload_steps, tree_steps, child_steps, close_step}
 use Rattle.steps.specs.Rows.{short}
 use Rattle.steps.specs.Writer.{record_from}
-use Rattle.steps.proofs.Fits.{text_steps, byte_steps, no_steps, Pays, text, byte, nothing, Fits, fits, FitsRow, ends, gone, here}
+use Rattle.steps.proofs.Payloads.{wide, text_steps, byte_steps, no_steps}
+use Rattle.tree.proofs.Fits.{Pays, text, byte, nothing, Fits, fits, FitsRow, ends, gone, here}
 use Rattle.steps.proofs.Taken.{list_append, record_taken}
 
 -- ---- rows
@@ -73,8 +74,10 @@ short_here (suc n) row h = go (is_many row) refl
 
 -- ---- a record and its steps
 -- a payload, and the steps that give it
-pub payload_size : {p kind : ℕ} {x : List ℕ} → Pays p kind x → length x ≤ length (list_bytes (payload_steps kind x))
-payload_size {kind = kind} (text width t e w is) = rw (is, text_steps kind width t e, append-nil t) (omega arith)
+pub payload_size : {p kind : ℕ} {x : List ℕ} → Pays 2 p kind x → length x ≤ length (list_bytes (payload_steps kind x))
+payload_size {kind = kind} {x = x} (text front t size e w from) =
+    let (width, is) = wide x front t size from in
+    rw (is, text_steps kind width t e, append-nil t) (omega arith)
 payload_size {kind = kind} (byte y e h top is) = rw (is, byte_steps kind y e h) (omega arith)
 payload_size {kind = kind} (nothing e h is) = rw (is, no_steps kind e h) (omega arith)
 
@@ -86,13 +89,13 @@ mutual
   unfolding written tree_steps
 
   -- the spare of a record's own steps is that of four children that are absent
-  pub record_size : {left p : ℕ} {x : Plain} → Fits left p x → length (written x) ≤ 2 * length (list_bytes (tree_steps x))
+  pub record_size : {left p : ℕ} {x : Plain} → Fits 2 left p x → length (written x) ≤ 2 * length (list_bytes (tree_steps x))
   record_size (fits {p = p} {kind = kind} {x = x} {xs = xs} right order pays row) =
       let a = payload_size pays in
       let b = row_size row 4 (row_short p kind) in
       omega (arith, length-append x (writtens xs), parts_size (payload_steps kind x) (child_steps xs))
 
-  pub row_size : {left row : ℕ} {xs : Plains} → FitsRow left row xs → (n : ℕ) → short n row ≡ true
+  pub row_size : {left row : ℕ} {xs : Plains} → FitsRow 2 left row xs → (n : ℕ) → short n row ≡ true
       → length (writtens xs) ≤ 2 * length (list_bytes (child_steps xs)) + 2 * n
   row_size (ends c) n s = omega arith
   row_size (gone {row = row} o more) n s =
@@ -117,8 +120,3 @@ record_from_size l left p at x end h =
     let t = r.1 in
     let s = record_size r.0 in
     (omega (arith, t.ends), t.within, omega (arith, t.ends))
-
--- ---- the image
-pub pairs_size : (cs : List Span) → length (pair_bytes cs) ≡ 8 * length cs
-pairs_size [] = refl
-pairs_size (c ∷ cs) = let e = pairs_size cs in omega arith

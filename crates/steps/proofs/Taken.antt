@@ -13,14 +13,16 @@ use Rattle.image.specs.Bytes.{be16, be32, part}
 use Rattle.image.specs.Kinds.{TEXT}
 use Rattle.image.specs.Grammar.{has_byte, top_byte, bare, place, after}
 use Rattle.image.specs.Read.{Read, got, bad, bind}
-use Rattle.image.specs.Write.{Plain, Plains, bytes4}
+use Rattle.image.specs.Write.{Plain, Plains, bytes4, bytes2}
 use Rattle.image.proofs.Exact.{part_length}
-use Rattle.steps.specs.Steps.{Step, comment_step, open_step, text_step, payload_step, absent_step, close_step, bytes2, step_bytes, list_bytes}
+use Rattle.steps.specs.Steps.{Step, comment_step, open_step, text_step, payload_step, absent_step, close_step, step_bytes, list_bytes}
 use Rattle.steps.specs.Steps.{payload_steps, tree_steps, child_steps, COMMENT_STEP, OPEN_STEP, TEXT_STEP, PAYLOAD_STEP, ABSENT_STEP, CLOSE_STEP}
 use Rattle.steps.specs.Writer.{whole, step_from, text_by, byte_by, payload_from, children_from, record_from}
-use Rattle.steps.proofs.Took.{Took, took_none, took_join, took_part, took_byte, took_four, took_two}
-use Rattle.steps.proofs.Fits.{text_steps, byte_steps, no_steps, Pays, text, byte, nothing, Fits, fits, FitsRow, ends, gone, here}
-use Rattle.steps.proofs.Views.{never, bind_got, passed, Turn, closed, absent, opened, turned, opens}
+use Rattle.tree.proofs.Took.{Took, took_none, took_join, took_part, took_byte, took_four, took_two}
+use Rattle.steps.proofs.Payloads.{text_steps, byte_steps, no_steps}
+use Rattle.tree.proofs.Fits.{two, Pays, text, byte, nothing, Fits, fits, FitsRow, ends, gone, here}
+use Rattle.steps.proofs.Views.{Turn, closed, absent, opened, turned, opens}
+use Rattle.image.proofs.Got.{never, bind_got, passed}
 
 -- ---- a step
 -- a step that is whole
@@ -103,13 +105,13 @@ step_took l at x past h =
 
 -- ---- a payload
 module _ (l : List ℕ) (p kind at : ℕ) (x : List ℕ) (end : ℕ) where
-  took_text : eqb kind TEXT ≡ true → bind (step_from l at) (text_by at) ≡ got x end → Pays p kind x × Took l at end (list_bytes (payload_steps kind x))
+  took_text : eqb kind TEXT ≡ true → bind (step_from l at) (text_by at) ≡ got x end → Pays 2 p kind x × Took l at end (list_bytes (payload_steps kind x))
   took_text t h =
       let s = bind_got (step_from l at) (text_by at) x end h in
       go s.0 s.1 s.2 s.3
     where
       go : (y : Step) (past : ℕ) → step_from l at ≡ got y past → text_by at y past ≡ got x end
-          → Pays p kind x × Took l at end (list_bytes (payload_steps kind x))
+          → Pays 2 p kind x × Took l at end (list_bytes (payload_steps kind x))
       go (comment_step a b) past s h = never h
       go (open_step a b c) past s h = never h
       go (payload_step a) past s h = never h
@@ -120,18 +122,18 @@ module _ (l : List ℕ) (p kind at : ℕ) (x : List ℕ) (end : ℕ) where
           let is : bytes2 width ++ y ≡ x = cc c.1 in
           let same : past ≡ end = cc c.1 in
           let o = step_took l at (text_step width y) past s in (
-            text width y t c.0 (sym is),
+            text (bytes2 width) y (two width refl refl) t c.0 (sym is),
             rw (← is, ← same, text_steps kind width y t) (took_join o (took_none l past o.within)),
           )
 
   took_byte_step : eqb kind TEXT ≡ false → has_byte kind ≡ true → bind (step_from l at) (byte_by at (top_byte p kind)) ≡ got x end
-      → Pays p kind x × Took l at end (list_bytes (payload_steps kind x))
+      → Pays 2 p kind x × Took l at end (list_bytes (payload_steps kind x))
   took_byte_step f t h =
       let s = bind_got (step_from l at) (byte_by at (top_byte p kind)) x end h in
       go s.0 s.1 s.2 s.3
     where
       go : (y : Step) (past : ℕ) → step_from l at ≡ got y past → byte_by at (top_byte p kind) y past ≡ got x end
-          → Pays p kind x × Took l at end (list_bytes (payload_steps kind x))
+          → Pays 2 p kind x × Took l at end (list_bytes (payload_steps kind x))
       go (comment_step a b) past s h = never h
       go (open_step a b c) past s h = never h
       go (text_step a b) past s h = never h
@@ -146,13 +148,13 @@ module _ (l : List ℕ) (p kind at : ℕ) (x : List ℕ) (end : ℕ) where
             rw (← is, ← same, byte_steps kind y f t) (took_join o (took_none l past o.within)),
           )
 
-  pub payload_taken : at ≤ length l → payload_from l p kind at ≡ got x end → Pays p kind x × Took l at end (list_bytes (payload_steps kind x))
+  pub payload_taken : at ≤ length l → payload_from l p kind at ≡ got x end → Pays 2 p kind x × Took l at end (list_bytes (payload_steps kind x))
   unfolding payload_from
   payload_taken low h = go (eqb kind TEXT) refl (has_byte kind) refl h
     where
       go : (t : Bool) → eqb kind TEXT ≡ t → (u : Bool) → has_byte kind ≡ u
           → cond t (bind (step_from l at) (text_by at)) (cond u (bind (step_from l at) (byte_by at (top_byte p kind))) (got [] at)) ≡ got x end
-          → Pays p kind x × Took l at end (list_bytes (payload_steps kind x))
+          → Pays 2 p kind x × Took l at end (list_bytes (payload_steps kind x))
       go true e u f h = took_text e h
       go false e true f h = took_byte_step e f h
       go false e false f h =
@@ -168,21 +170,21 @@ list_append (x ∷ xs) ys = ap (λ (r : List ℕ). step_bytes x ++ r) (list_appe
 
 -- what `one` takes is a record that fits, with `left` levels for it
 abbrev pub Takes : List ℕ → ℕ → (ℕ → ℕ → Read Plain) → Type 0
-Takes l left one = (p at : ℕ) (x : Plain) (end : ℕ) → one p at ≡ got x end → Fits left p x × Took l at end (list_bytes (tree_steps x))
+Takes l left one = (p at : ℕ) (x : Plain) (end : ℕ) → one p at ≡ got x end → Fits 2 left p x × Took l at end (list_bytes (tree_steps x))
 
 -- children with the step that closes their record
 abbrev pub closing : Plains → List ℕ
 closing xs = list_bytes (child_steps xs ++ (close_step ∷ []))
 
 pub children_taken : (l : List ℕ) (left : ℕ) (one : ℕ → ℕ → Read Plain) → Takes l left one → (n row at : ℕ) (xs : Plains) (end : ℕ)
-    → children_from one l n row at ≡ got xs end → FitsRow left row xs × Took l at end (closing xs)
+    → children_from one l n row at ≡ got xs end → FitsRow 2 left row xs × Took l at end (closing xs)
 unfolding children_from tree_steps
 children_taken l left one f zero row at xs end h = never h
 children_taken l left one f (suc n) row at xs end h = go (children_taken l left one f n (after row)) (turned one l n row at xs end h)
   where
     go : ((past : ℕ) (zs : Plains) (e : ℕ) → children_from one l n (after row) past ≡ got zs e
-        → FitsRow left (after row) zs × Took l past e (closing zs))
-        → Turn one l n row at xs end → FitsRow left row xs × Took l at end (closing xs)
+        → FitsRow 2 left (after row) zs × Took l past e (closing zs))
+        → Turn one l n row at xs end → FitsRow 2 left row xs × Took l at end (closing xs)
     go more (closed s c is) =
         let o = step_took l at close_step end s in
         rw is (ends c, took_join o (took_none l end o.within))

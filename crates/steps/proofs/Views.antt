@@ -1,7 +1,7 @@
 -- What an accepted reading of steps was made of, and that it is accepted where it is made of this: both ways, for each part of the writer.
 -- Assumes nothing.
-use mathlib.Core.Path.{◌≡◌, refl, ap, ◌∙◌}
-use mathlib.Core.Bool.{Bool, true, false, cond, ◌&&◌, false≢true}
+use mathlib.Core.Path.{◌≡◌, ap, ◌∙◌}
+use mathlib.Core.Bool.{true, false, cond, ◌&&◌}
 use mathlib.Core.List.{List}
 use Prim.Native.Nat.{ℕ, suc, ◌≤◌}
 use lib.ListN.{length}
@@ -11,26 +11,9 @@ use Rattle.laws.proofs.Booleans.{and_left, and_right}
 use Rattle.image.specs.Grammar.{is_optional, bare, place, after, complete, row_under_of, kind_fits_of}
 use Rattle.image.specs.Read.{Read, got, bad, bind}
 use Rattle.image.specs.Write.{Plain, Plains, without, plainly, done, ◌next◌}
-use Rattle.image.proofs.Shapes.{is_got}
+use Rattle.image.proofs.Got.{never, bind_got, passed, stayed}
 use Rattle.steps.specs.Steps.{Step, comment_step, open_step, text_step, payload_step, absent_step, close_step}
 use Rattle.steps.specs.Writer.{step_from, Opened, opened_by, opened_from, payload_from, at_child, children_from, record_from}
-
--- ---- one reading after the other, and a test before one
-pub never : {A B : Type 0} {n p e : ℕ} {a : A} → ◌≡◌ {A = Read A} (bad n p) (got a e) → B
-never h = absurd (false≢true (ap is_got h))
-
-pub bind_got : {A B : Type 0} (r : Read A) (k : A → ℕ → Read B) (b : B) (e : ℕ) → bind r k ≡ got b e
-    → (a : A) × (n : ℕ) × (r ≡ got a n) × (k a n ≡ got b e)
-bind_got (got a n) k b e h = (a, n, refl, h)
-bind_got (bad n p) k b e h = never h
-
-pub passed : {A : Type 0} (t : Bool) (r : Read A) (n p : ℕ) (a : A) (e : ℕ) → cond t r (bad n p) ≡ got a e → (t ≡ true) × (r ≡ got a e)
-passed true r n p a e h = (refl, h)
-passed false r n p a e h = never h
-
-pub stayed : {A : Type 0} (t : Bool) (r : Read A) (n p : ℕ) (a : A) (e : ℕ) → cond t (bad n p) r ≡ got a e → (t ≡ false) × (r ≡ got a e)
-stayed true r n p a e h = never h
-stayed false r n p a e h = (refl, h)
 
 -- ---- children
 -- what the step at `at` says there

@@ -11,11 +11,11 @@ use borrow.Author.Tests.{lt-ltb, le-ltb}
 use Rattle.image.specs.Read.{got}
 use Rattle.image.specs.Write.{Plain}
 use Rattle.ast.specs.Syntax.{Span}
-use Rattle.steps.specs.Steps.{comment_step, step_bytes, list_bytes, tree_steps, Contents, steps}
-use Rattle.steps.specs.Steps.{COMMENT_STEP, OPEN_STEP}
+use Rattle.steps.specs.Steps.{comment_step, step_bytes, list_bytes, tree_steps, steps, COMMENT_STEP, OPEN_STEP}
+use Rattle.tree.specs.Contents.{Contents}
 use Rattle.steps.specs.Writer.{comments_from, contents_from}
-use Rattle.steps.proofs.Stands.{Stands, stands_whole, stands_left, stands_right, stands_byte}
-use Rattle.steps.proofs.Fits.{Fits, fits, Listing, no_more, one_more, FitsAll}
+use Rattle.tree.proofs.Stands.{Stands, stands_whole, stands_left, stands_right, stands_byte}
+use Rattle.tree.proofs.Fits.{Fits, fits, Listing, no_more, one_more, FitsAll}
 use Rattle.steps.proofs.Taken.{list_append}
 use Rattle.steps.proofs.WholeList.{comment_steps}
 use Rattle.steps.proofs.Accepts.{step_there, record_there}
@@ -43,7 +43,7 @@ comments_there l (one_more {n = n} {c = c} {cs = cs} order more) at s last =
     rw (k, f, lt-ltb c.start c.end order, r, here)
 
 -- a tree doesn't start like a comment
-no_comment : (l : List ℕ) {left p : ℕ} {x : Plain} → Fits left p x → (at : ℕ) → Stands l at (list_bytes (tree_steps x))
+no_comment : (l : List ℕ) {left p : ℕ} {x : Plain} → Fits 2 left p x → (at : ℕ) → Stands l at (list_bytes (tree_steps x))
     → eqb (get_or l at 0) COMMENT_STEP ≡ false
 unfolding tree_steps
 no_comment l (fits right order pays row) at s =
@@ -51,7 +51,7 @@ no_comment l (fits right order pays row) at s =
     rw k
 
 -- ---- the whole
-pub contents_there : (c : Contents) → FitsAll c → contents_from (list_bytes (steps c)) ≡ got c (length (list_bytes (steps c)))
+pub contents_there : (c : Contents) → FitsAll 2 c → contents_from (list_bytes (steps c)) ≡ got c (length (list_bytes (steps c)))
 unfolding contents_from
 contents_there c f =
     let l = list_bytes (steps c) in

@@ -13,14 +13,14 @@ use Rattle.image.specs.Limits.{MAX_COMMENTS, MAX_RECORDS_DEEP}
 use Rattle.image.specs.Read.{got, bind}
 use Rattle.ast.specs.Syntax.{Span}
 use Rattle.tree.specs.CommentList.{span}
-use Rattle.steps.specs.Steps.{Step, comment_step, open_step, text_step, payload_step, absent_step}
-use Rattle.steps.specs.Steps.{close_step, step_bytes, list_bytes, tree_steps, Contents, steps}
-use Rattle.steps.specs.Steps.{COMMENT_STEP}
+use Rattle.steps.specs.Steps.{Step, comment_step, open_step, text_step, payload_step, absent_step, COMMENT_STEP}
+use Rattle.steps.specs.Steps.{close_step, step_bytes, list_bytes, tree_steps, steps}
+use Rattle.tree.specs.Contents.{Contents}
 use Rattle.steps.specs.Writer.{step_from, pair_by, comments_from, record_from, contents_from}
-use Rattle.steps.specs.Exact.{Bytes}
-use Rattle.steps.proofs.Took.{took_all, Took, took_none, took_join}
-use Rattle.steps.proofs.Fits.{Listing, no_more, one_more, FitsAll}
-use Rattle.steps.proofs.Views.{never, bind_got, passed, stayed}
+use Rattle.image.specs.Write.{Bytes}
+use Rattle.tree.proofs.Took.{took_all, Took, took_none, took_join}
+use Rattle.tree.proofs.Fits.{Listing, no_more, one_more, FitsAll}
+use Rattle.image.proofs.Got.{never, bind_got, passed, stayed}
 use Rattle.steps.proofs.Taken.{step_took, list_append, record_taken}
 
 -- ---- comments
@@ -77,7 +77,7 @@ comments_taken l (suc n) at cs end low h = go (eqb (get_or l at 0) COMMENT_STEP)
         pair more s.0 s.1 s.2 p.0 p.1 s.3 p.3
 
 -- ---- the whole
-pub contents_taken : (l : List ℕ) (c : Contents) (end : ℕ) → contents_from l ≡ got c end → FitsAll c × Took l 0 (length l) (list_bytes (steps c))
+pub contents_taken : (l : List ℕ) (c : Contents) (end : ℕ) → contents_from l ≡ got c end → FitsAll 2 c × Took l 0 (length l) (list_bytes (steps c))
 unfolding contents_from
 contents_taken l c end h =
     let p = bind_got (comments_from l MAX_COMMENTS 0) _ c end h in

@@ -1,12 +1,10 @@
 -- Document 02, 5/14, "Images from the table generator": steps, their bytes, and the steps of an image. The grammar is the reader's own.
-use Rattle.std.specs.Prelude.{cond, List, [], ◌∷◌, ◌++◌, map, ℕ, ◌/◌, ◌%◌, eqb, length, get_or, drop}
+use Rattle.std.specs.Prelude.{cond, List, [], ◌∷◌, ◌++◌, map, ℕ, eqb, length, get_or, drop}
 use Rattle.image.specs.Bytes.{be16}
 use Rattle.image.specs.Kinds.{TEXT}
 use Rattle.image.specs.Grammar.{has_byte}
-use Rattle.image.specs.Read.{Image}
-use Rattle.image.specs.Write.{Plain, Plains, without, plainly, done, ◌next◌, bytes4, framed, written, plain}
-use Rattle.ast.specs.Syntax.{Span}
-use Rattle.tree.specs.CommentList.{comments_of}
+use Rattle.image.specs.Write.{Plain, Plains, without, plainly, done, ◌next◌, bytes2, bytes4}
+use Rattle.tree.specs.Contents.{Contents}
 
 -- ---- steps
 -- "comments with start and end, first; then open a kind with its span, give a text and its width, give a payload byte, say absent, close"
@@ -37,10 +35,6 @@ ABSENT_STEP = 5
 abbrev pub CLOSE_STEP : ℕ
 CLOSE_STEP = 6
 
--- a number below 2^16 in two bytes, big-endian
-abbrev pub bytes2 : ℕ → List ℕ
-bytes2 n = (n / 256) ∷ (n % 256) ∷ []
-
 -- "then its numbers as in the image, kind before span; for a text its width, four bytes of length, the text"
 abbrev pub step_bytes : Step → List ℕ
 step_bytes (comment_step start end) = COMMENT_STEP ∷ bytes4 start ++ bytes4 end
@@ -55,30 +49,7 @@ abbrev pub list_bytes : List Step → List ℕ
 list_bytes [] = []
 list_bytes (x ∷ xs) = step_bytes x ++ list_bytes xs
 
--- ---- what an image says
--- its comments and its tree, without offsets
-pub record Contents : Type 0 where
-  pub comments : List Span
-  pub tree : Plain
-
--- "for each, start and end, four bytes each"
-abbrev pub pair_bytes : List Span → List ℕ
-pair_bytes [] = []
-pair_bytes (c ∷ cs) = bytes4 c.start ++ bytes4 c.end ++ pair_bytes cs
-
--- "Body: two bytes, the number of comments; for each, start and end, four bytes each; one tree record."
-abbrev pub body_of : Contents → List ℕ
-body_of c = bytes2 (length c.comments) ++ (pair_bytes c.comments ++ written c.tree)
-
--- "One version byte 1; four bytes, the length of the body; the body."
-abbrev pub image_of : Contents → List ℕ
-image_of c = 1 ∷ framed (body_of c)
-
--- what was read of an image
-abbrev pub contents_of : List ℕ → Image → Contents
-contents_of b i = record { comments = comments_of b; tree = plain b i.tree }
-
--- ---- its steps
+-- ---- the steps of an image
 -- a text is payload to its end, its width first; the other payloads are one byte
 abbrev pub payload_steps : ℕ → List ℕ → List Step
 payload_steps kind x = cond (eqb kind TEXT) (text_step (be16 x 0) (drop 2 x) ∷ []) (cond (has_byte kind) (payload_step (get_or x 0 0) ∷ []) [])

@@ -10,10 +10,11 @@ use Rattle.image.specs.Kinds.{TREE, TEXT}
 use Rattle.image.specs.Limits.{MAX_BODY, MAX_COMMENTS, MAX_RECORDS_DEEP}
 use Rattle.image.specs.Grammar.{is_optional, bare, place, after, complete, row_under_of, kind_fits_of, has_byte, top_byte}
 use Rattle.image.specs.Read.{Read, got, bad, bind, read_refusal}
-use Rattle.image.specs.Write.{Plain, Plains, without, plainly, done, ◌next◌}
+use Rattle.image.specs.Write.{Plain, Plains, without, plainly, done, ◌next◌, bytes2}
 use Rattle.ast.specs.Syntax.{Span}
 use Rattle.tree.specs.CommentList.{span}
-use Rattle.steps.specs.Steps.{Step, comment_step, open_step, text_step, payload_step, absent_step, close_step, bytes2, Contents, image_of}
+use Rattle.steps.specs.Steps.{Step, comment_step, open_step, text_step, payload_step, absent_step, close_step}
+use Rattle.tree.specs.Contents.{Contents, image_of}
 use Rattle.steps.specs.Steps.{COMMENT_STEP, OPEN_STEP, TEXT_STEP, PAYLOAD_STEP, ABSENT_STEP, CLOSE_STEP}
 
 -- ---- a step
@@ -141,7 +142,7 @@ contents_from l =
 
 -- the image of an accepted list; of another nothing is written
 abbrev pub image_by : Read Contents → List ℕ
-image_by (got c end) = image_of c
+image_by (got c end) = image_of 1 c
 image_by (bad n p) = []
 
 abbrev pub image_due : List ℕ → List ℕ

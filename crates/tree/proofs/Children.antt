@@ -15,6 +15,7 @@ use Rattle.text.specs.Newlines.{is_range}
 use Rattle.laws.proofs.Booleans.{and_left, and_right}
 use Rattle.image.specs.Bytes.{be32}
 use Rattle.image.specs.Grammar.{is_list, is_optional, is_many, bare, place, after, complete, row_under_of, kind_fits_of, payload_fits, first_child}
+use Rattle.image.specs.Read.{width_bytes}
 use Rattle.image.specs.Read.{Read, got, bad, bind, Tree, Trees, absent, node, nil, ◌▸◌, stop_at, kind_at, head_at, skips, child_at, record_at, children_at}
 use Rattle.image.proofs.Shapes.{is_got, opened_order, skips_within}
 use Rattle.image.proofs.Inside.{Split, must, none_left, any_number, inside, none_deep}
@@ -78,10 +79,13 @@ ranged p k e = go (is_list p) e
         omega arith
 
 module _ (s b : List ℕ) where
+  abbrev v : ℕ
+  v = width_bytes b
+
   -- ---- what is read
   -- a record that was read as t at place p, with d levels left, in a parent that ends at `end`
   pub record Kid (d p at end : ℕ) (t : Tree) : Type 0 where
-    pub reads : record_at s b 2 d p at end ≡ got t (stop_at b at)
+    pub reads : record_at s b v d p at end ≡ got t (stop_at b at)
     pub within : stop_at b at ≤ end
     pub far : end ≤ length b
     pub small : length b < THREE_BYTES
@@ -122,11 +126,11 @@ module _ (s b : List ℕ) where
   abbrev Clears : ℕ → ℕ → ℕ → Type 0
   Clears at end q = stop_at b at ≤ end → q ≡ stop_at b at → Clear b (stop_at b at)
 
-  pub kid : (d p at end : ℕ) (t : Tree) (q : ℕ) → end ≤ length b → length b < THREE_BYTES → Clears at end q → record_at s b 2 d p at end ≡ got t q
+  pub kid : (d p at end : ℕ) (t : Tree) (q : ℕ) → end ≤ length b → length b < THREE_BYTES → Clears at end q → record_at s b v d p at end ≡ got t q
       → (q ≡ stop_at b at) × Kid d p at end t
-  kid zero p at end t q far small clears h = absurd (none_deep s b 2 p at end t q h)
+  kid zero p at end t q far small clears h = absurd (none_deep s b v p at end t q h)
   kid (suc d) p at end t q far small clears h =
-      let i = inside s b 2 d p at end t q h in (
+      let i = inside s b v d p at end t q h in (
         i.stop,
         record {
           reads = h ∙ ap (got t) i.stop;
@@ -158,35 +162,35 @@ module _ (s b : List ℕ) where
   unfolding be32 within
   low_byte at l = let z : get_or b at 0 ≡ 0 = omega arith in record { starts = rw z }
 
-  record_low : (d p at end : ℕ) (t : Tree) (q : ℕ) → end ≤ length b → length b < THREE_BYTES → record_at s b 2 d p at end ≡ got t q → Clear b at
-  record_low zero p at end t q far small h = absurd (none_deep s b 2 p at end t q h)
+  record_low : (d p at end : ℕ) (t : Tree) (q : ℕ) → end ≤ length b → length b < THREE_BYTES → record_at s b v d p at end ≡ got t q → Clear b at
+  record_low zero p at end t q far small h = absurd (none_deep s b v p at end t q h)
   record_low (suc d) p at end t q far small h =
-      let i = inside s b 2 d p at end t q h in
+      let i = inside s b v d p at end t q h in
       low_byte at (omega (arith, i.held.right.within))
 
-  child_low : (d p at end : ℕ) (t : Tree) (q : ℕ) → end ≤ length b → length b < THREE_BYTES → child_at s b 2 d p at end ≡ got t q → Clear b at
+  child_low : (d p at end : ℕ) (t : Tree) (q : ℕ) → end ≤ length b → length b < THREE_BYTES → child_at s b v d p at end ≡ got t q → Clear b at
   child_low d p at end t q far small h = go (skips b p at end) refl h
     where
-      go : (x : Bool) → skips b p at end ≡ x → cond x (got absent (at + 4)) (record_at s b 2 d (bare p) at end) ≡ got t q → Clear b at
+      go : (x : Bool) → skips b p at end ≡ x → cond x (got absent (at + 4)) (record_at s b v d (bare p) at end) ≡ got t q → Clear b at
       go true e h = low_byte at (omega (arith, (skips_within b p at end e).1))
       go false e h = record_low d (bare p) at end t q far small h
 
   -- so it is of what stands behind a child: the next one, or the parent's end
   pub clear_at : (d n row at end : ℕ) (ts : Trees) (e : ℕ) → end ≤ length b → length b < THREE_BYTES → Clear b end → at ≤ end
-      → children_at (child_at s b 2 d) n row at end ≡ got ts e → Clear b at
+      → children_at (child_at s b v d) n row at end ≡ got ts e → Clear b at
   clear_at d n row at end ts e far small c le h = go (ltb at end) refl
     where
       go : (x : Bool) → ltb at end ≡ x → Clear b at
       go true l =
-          let r = first_read (child_at s b 2 d) n row at end ts e (ltb-true at end l) h in
+          let r = first_read (child_at s b v d) n row at end ts e (ltb-true at end l) h in
           child_low d (place row) at end r.0 r.1 far small r.2
       go false l = let same : at ≡ end = omega (arith, ltb-false at end l) in rw same c
 
   -- no record is absent, and no children are a child with others
   not_absent : (d p at end : ℕ) → Kid d p at end absent → ⊥
-  not_absent zero p at end k = none_deep s b 2 p at end absent _ k.reads
+  not_absent zero p at end k = none_deep s b v p at end absent _ k.reads
   not_absent (suc d) p at end k =
-      let i = inside s b 2 d p at end absent _ k.reads in
+      let i = inside s b v d p at end absent _ k.reads in
       let e = i.is in
       let z : ◌≡◌ {A = ℕ} 0 1 = cc in
       omega arith
@@ -204,11 +208,11 @@ module _ (s b : List ℕ) where
     within : stop_at b at ≤ end
     is : Perhaps d (bare p) at end t
 
-  child : (d p at end : ℕ) (t : Tree) (q : ℕ) → end ≤ length b → length b < THREE_BYTES → Clears at end q → child_at s b 2 d p at end ≡ got t q
+  child : (d p at end : ℕ) (t : Tree) (q : ℕ) → end ≤ length b → length b < THREE_BYTES → Clears at end q → child_at s b v d p at end ≡ got t q
       → Child d p at end t q
   child d p at end t q far small clears h = go (skips b p at end) refl h
     where
-      go : (x : Bool) → skips b p at end ≡ x → cond x (got absent (at + 4)) (record_at s b 2 d (bare p) at end) ≡ got t q → Child d p at end t q
+      go : (x : Bool) → skips b p at end ≡ x → cond x (got absent (at + 4)) (record_at s b v d (bare p) at end) ≡ got t q → Child d p at end t q
       go true e h =
           let w = skips_within b p at end e in
           let is : absent ≡ t = cc in
@@ -223,22 +227,22 @@ module _ (s b : List ℕ) where
           record { stop = k.0; within = k.1.within; is = is_here d (bare p) at end t k.1 }
 
   -- where the place is not optional, a record stands there
-  plain : (d p at end : ℕ) → is_optional p ≡ false → child_at s b 2 d p at end ≡ record_at s b 2 d (bare p) at end
+  plain : (d p at end : ℕ) → is_optional p ≡ false → child_at s b v d p at end ≡ record_at s b v d (bare p) at end
   unfolding skips
   plain d p at end e = simp e
 
   elements : (d row end : ℕ) (ts : Trees) (n at : ℕ) → end ≤ length b → length b < THREE_BYTES → Clear b end → at ≤ end → ¬ (row ≡ 0)
       → is_many row ≡ true → is_optional (place row) ≡ false
-      → children_at (child_at s b 2 d) n row at end ≡ got ts end → Elements d (bare (place row)) end ts at
+      → children_at (child_at s b v d) n row at end ≡ got ts end → Elements d (bare (place row)) end ts at
   elements d row end nil n at far small c le z m f h =
       ⊎_elim (λ x. record { same = omega (arith, x.1) }) (λ x. absurd (empty _ _ x.1.cons))
-      (any_number (child_at s b 2 d) n row at end nil end z m h)
+      (any_number (child_at s b v d) n row at end nil end z m h)
   elements d row end (t ▸ ts) n at far small clear le z m f h =
       ⊎_elim (λ x. absurd (empty _ _ (sym x.0))) (λ x. go x.1 (λ n at le. elements d row end ts n at far small clear le z m f))
-      (any_number (child_at s b 2 d) n row at end (t ▸ ts) end z m h)
+      (any_number (child_at s b v d) n row at end (t ▸ ts) end z m h)
     where
-      go : Split (child_at s b 2 d) (place row) row at end (t ▸ ts) end
-          → ((n at : ℕ) → at ≤ end → children_at (child_at s b 2 d) n row at end ≡ got ts end → Elements d (bare (place row)) end ts at)
+      go : Split (child_at s b v d) (place row) row at end (t ▸ ts) end
+          → ((n at : ℕ) → at ≤ end → children_at (child_at s b v d) n row at end ≡ got ts end → Elements d (bare (place row)) end ts at)
           → Elements d (bare (place row)) end (t ▸ ts) at
       go c more =
           let e₁ : c.head ≡ t = cc c.cons in
@@ -253,10 +257,10 @@ module _ (s b : List ℕ) where
   -- the children that were read, at the places of the row
   abbrev Reads : ℕ → List Place → ℕ → ℕ → Type 0
   Reads d ps row end =
-      (turns at : ℕ) (ts : Trees) → at ≤ end → children_at (child_at s b 2 d) turns row at end ≡ got ts end → Apart d ps at end ts
+      (turns at : ℕ) (ts : Trees) → at ≤ end → children_at (child_at s b v d) turns row at end ≡ got ts end → Apart d ps at end ts
 
   first_due : (d : ℕ) (ps : List Place) (p row at end : ℕ) (ts : Trees) → end ≤ length b → length b < THREE_BYTES → Clear b end → is_optional p ≡ false
-      → Split (child_at s b 2 d) p row at end ts end → Reads d ps row end → Apart d (due (bare p) ∷ ps) at end ts
+      → Split (child_at s b v d) p row at end ts end → Reads d ps row end → Apart d (due (bare p) ∷ ps) at end ts
   first_due d ps p row at end ts far small clear o c more =
       let clears : Clears at end c.next =
       λ w q. rw (← q) (clear_at d c.turns row c.next end c.tail end far small clear (omega arith) c.more)
@@ -266,7 +270,7 @@ module _ (s b : List ℕ) where
       record { kids = (c.head, k.1, a.kids); same = c.cons ∙ ap (λ (us : Trees). c.head ▸ us) a.same }
 
   first_maybe : (d : ℕ) (ps : List Place) (p row at end : ℕ) (ts : Trees) → end ≤ length b → length b < THREE_BYTES → Clear b end
-      → Split (child_at s b 2 d) p row at end ts end → Reads d ps row end → Apart d (maybe (bare p) ∷ ps) at end ts
+      → Split (child_at s b v d) p row at end ts end → Reads d ps row end → Apart d (maybe (bare p) ∷ ps) at end ts
   first_maybe d ps p row at end ts far small clear c more =
       let clears : Clears at end c.next =
       λ w q. rw (← q) (clear_at d c.turns row c.next end c.tail end far small clear (omega arith) c.more)
@@ -287,14 +291,14 @@ module _ (s b : List ℕ) where
           (cond y (cond z others (many (bare (place row))) ∷ []) (cond z (maybe (bare (place row))) (due (bare (place row))) ∷ places n (row / 65536))))
           at end ts
       go true e y m z o more =
-          let k = none_left (child_at s b 2 d) turns at end ts end (rw (eqb-true row 0 e) at h) in
+          let k = none_left (child_at s b v d) turns at end ts end (rw (eqb-true row 0 e) at h) in
           record { kids = record { same = omega (arith, k.1) }; same = k.0 }
       go false e true m true o more = record { kids = ts; same = refl }
       go false e true m false o more = record { kids = (ts, elements d row end ts turns at far small clear le (eqb-false row 0 e) m o h); same = refl }
       go false e false m true o more =
-          first_maybe d _ (place row) (row / 65536) at end ts far small clear (rw m at (must (child_at s b 2 d) turns row at end ts end (rw (e, m)) h)) more
+          first_maybe d _ (place row) (row / 65536) at end ts far small clear (rw m at (must (child_at s b v d) turns row at end ts end (rw (e, m)) h)) more
       go false e false m false o more =
-          first_due d _ (place row) (row / 65536) at end ts far small clear o (rw m at (must (child_at s b 2 d) turns row at end ts end (rw (e, m)) h)) more
+          first_due d _ (place row) (row / 65536) at end ts far small clear o (rw m at (must (child_at s b v d) turns row at end ts end (rw (e, m)) h)) more
 
   -- ---- one record
   -- the head of the record at `at`, were its kind k
@@ -316,7 +320,7 @@ module _ (s b : List ℕ) where
     pub within : stop_at b at ≤ end
     pub far : end ≤ length b
     pub clear : Clear b (stop_at b at)
-    pub payload : payload_fits b 2 p k (at + 13) (stop_at b at) ≡ true
+    pub payload : payload_fits b v p k (at + 13) (stop_at b at) ≡ true
     pub span : is_range s (be32 b (at + 5)) (be32 b (at + 9)) ≡ true
     pub kids : Kids d (places 5 (row_under_of p k)) (first_child k (at + 13) (stop_at b at)) (stop_at b at)
 
@@ -326,7 +330,7 @@ module _ (s b : List ℕ) where
   opened : (d p at end : ℕ) (t : Tree) → Kid (suc d) p at end t
       → (kind_fits_of p (kind_at b at) ≡ true) × ((n : Node d p at end (kind_at b at)) × (t ≡ tree_of d p at end (kind_at b at) n))
   opened d p at end t k =
-      let i = inside s b 2 d p at end t _ k.reads in
+      let i = inside s b v d p at end t _ k.reads in
       let o = i.held in
       let far : stop_at b at ≤ length b = omega (arith, k.within, k.far) in
       let a = apart d 5 (row_under_of p (kind_at b at)) (stop_at b at) far k.small k.clear _ _ i.trees (opened_order o) i.kept in (
@@ -360,7 +364,7 @@ module _ (s b : List ℕ) where
 
   -- with no level left none is read
   pub none : (p : ℕ) (P : Tree → ℕ → Type 0) → All 0 p P
-  none p P at end t k = absurd (none_deep s b 2 p at end t _ k.reads)
+  none p P at end t k = absurd (none_deep s b v p at end t _ k.reads)
 
   pub all : (d p : ℕ) (P : Tree → ℕ → Type 0)
       → ((at end : ℕ) → Each (λ k. (n : Node d p at end k) → P (tree_of d p at end k n) at) (low p) (count p)) → All (suc d) p P

@@ -9,7 +9,7 @@ use Rattle.text.specs.Newlines.{is_range}
 use Rattle.image.specs.Bytes.{be16, be32}
 use Rattle.image.specs.Grammar.{row_of, row_under_of, kind_fits_of, payload_fits, first_child}
 use Rattle.image.specs.Read.{Read, got, bad, Image, header, comment_fits, comments_from, comments, shape, opens, children_at, skips, record_at, tree_at}
-use Rattle.image.specs.Read.{read_tree, read_image, source_fits, read_all}
+use Rattle.image.specs.Read.{read_tree, read_image, source_fits, read_with, width_bytes, stored_width, read_all}
 use Rattle.ast.specs.Syntax.{Span, Ident, TypeExpr, type, type_path, no_args, Expr, expr, literal, const, SyntaxTree}
 use Rattle.tree.specs.Records.{views, syntax_tree}
 
@@ -70,7 +70,8 @@ two_image =
 one_found : found one_image (read_all one_source one_image)
     ≡ Some (0, 7, record { shebang = None; declarations = const (name 1 6 52) (u32 9 94) (digit 15) ∷ [] })
 unfolding one_source one_image span name u32 digit syntax_tree views
-    read_all source_fits well_formed prefix run read_image header comments comments_from comment_fits read_tree tree_at record_at opens
+    read_with width_bytes stored_width source_fits well_formed prefix run
+    read_image header comments comments_from comment_fits read_tree tree_at record_at opens
     shape kind_fits_of payload_fits
     first_child row_under_of row_of children_at skips be16 be32 is_range boundary within sequence followed row_in
 one_found = refl
@@ -82,7 +83,8 @@ two_found : found two_image (read_all two_source two_image)
       record { shebang = None; declarations = const (name 1 6 60) (u32 9 102) (digit 15) ∷ const (name 1 29 164) (u32 32 206) (digit 38) ∷ [] },
     )
 unfolding two_source two_image span name u32 digit syntax_tree views
-    read_all source_fits well_formed prefix run read_image header comments comments_from comment_fits read_tree tree_at record_at opens
+    read_with width_bytes stored_width source_fits well_formed prefix run
+    read_image header comments comments_from comment_fits read_tree tree_at record_at opens
     shape kind_fits_of payload_fits
     first_child row_under_of row_of children_at skips be16 be32 is_range boundary within sequence followed row_in
 two_found = refl

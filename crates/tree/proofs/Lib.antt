@@ -5,4 +5,11 @@ pub mod Exprs
 pub mod Declarations
 pub mod Walk
 pub mod Whole
+pub mod Took
+pub mod Stands
+pub mod Fits
+pub mod ReadFits
+pub mod ReadsAgain
+pub mod WholeFits
+pub mod WholeAgain
 pub mod Examples

@@ -12,7 +12,7 @@ use Rattle.text.specs.Utf8.{well_formed}
 use Rattle.laws.proofs.Booleans.{and_left, and_right}
 use Rattle.image.specs.Bytes.{be32, part}
 use Rattle.image.specs.Grammar.{list, assign, up_to, row_of, row_under_of, first_child, payload_fits}
-use Rattle.image.specs.Read.{Tree, Trees, node, stop_at}
+use Rattle.image.specs.Read.{width_bytes, Tree, Trees, node, stop_at}
 use Rattle.tree.specs.At.{Done, Maybe, IdentAt, IdentsAt, PathAt, ListAt, PatternAt, ByteAt}
 use Rattle.tree.specs.Records.{Views, views, each, idents, maybe, list_of}
 use Rattle.tree.proofs.Children.{◌∣◌, Perhaps, Elements, Node, All, always, head, before, perhaps, run}
@@ -25,11 +25,12 @@ module _ (s b : List ℕ) where
   optional d p f P w at end =
       perhaps s b d p at end (λ t. Maybe s b P (maybe (views b t).there (f (views b t))) at) (λ a. a) (λ h ts k. w at end (node h ts) k)
 
-  text_fits : (at stop : ℕ) → leb (at + 13 + 2) stop && well_formed (part (at + 13 + 2) stop b) ≡ true → at + 15 + (stop - (at + 15)) ≡ stop
-  text_fits at stop e = let l = leb-true (at + 13 + 2) stop (and_left _ _ e) in omega arith
+  -- a text that starts at `from` in its record
+  text_fits : (from stop : ℕ) → leb from stop && well_formed (part from stop b) ≡ true → from + (stop - from) ≡ stop
+  text_fits from stop e = let l = leb-true from stop (and_left _ _ e) in omega arith
 
-  text_formed : (at stop : ℕ) → leb (at + 13 + 2) stop && well_formed (part (at + 13 + 2) stop b) ≡ true → well_formed (part (at + 15) stop b) ≡ true
-  text_formed at stop e = let same : at + 15 ≡ at + 13 + 2 = omega arith in rw same (and_right (leb (at + 13 + 2) stop) _ e)
+  text_formed : (from stop : ℕ) → leb from stop && well_formed (part from stop b) ≡ true → well_formed (part from stop b) ≡ true
+  text_formed from stop e = and_right (leb from stop) _ e
 
   pub ident : (d : ℕ) → All s b d 2 (λ t at. IdentAt s b (views b t).ident at)
   unfolding views row_under_of row_of first_child payload_fits
@@ -38,12 +39,13 @@ module _ (s b : List ℕ) where
       (λ d at end.
       (λ n.
       let stop = stop_at b at in
+      let from = at + 13 + width_bytes b in
       record {
         head = head s b n;
         wide = refl;
         starts = refl;
-        ends = text_fits at stop n.payload;
-        formed = text_formed at stop n.payload;
+        ends = text_fits from stop n.payload;
+        formed = text_formed from stop n.payload;
         clear = n.clear;
       })
       ∣ tt)

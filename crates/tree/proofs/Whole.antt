@@ -7,12 +7,12 @@ use Prim.Native.Nat.{ℕ, ◌<◌}
 use native.Mathlib.Omega.{arith}
 use lib.ListN.{length, get_or, get_or-eq_default}
 use lib.Dec.{lit≤}
-use Rattle.text.specs.Utf8.{prefix, well_formed}
+use Rattle.text.specs.Utf8.{prefix, well_formed, within}
 use Rattle.image.specs.Grammar.{any_declaration, row_of, row_under_of, first_child}
-use Rattle.image.specs.Read.{got, bad, Tree, Trees, Image, stop_at, tree_at, read_image, source_fits, read_all, document_of, outcome}
+use Rattle.image.specs.Read.{got, bad, Tree, Trees, Image, width_bytes, any_version, stop_at}
+use Rattle.image.specs.Read.{tree_at, read_image, source_fits, read_with, read_all, document_of, outcome}
 use Rattle.image.proofs.Shapes.{is_got}
 use Rattle.image.proofs.Accepted.{Root, rooted}
-use Rattle.text.specs.Utf8.{within}
 use Rattle.tree.specs.At.{Clear, IdentAt, DeclarationsAt, TreeAt}
 use Rattle.tree.specs.Records.{views, each, declarations, syntax_tree}
 use Rattle.tree.proofs.Children.{THREE_BYTES, ◌∣◌, Elements, All, all, kid, head, before, perhaps_before, run}
@@ -50,29 +50,30 @@ module _ (s b : List ℕ) where
   unfolding within
   end_clear = let z : get_or b (length b) 0 ≡ 0 = get_or-eq_default b 0 (omega arith) in record { starts = rw z }
 
-  pub tree_at_lem : (at : ℕ) (t : Tree) → length b < THREE_BYTES → tree_at s b 2 1 at ≡ got t (length b) → TreeAt s b (syntax_tree b t) at
+  pub tree_at_lem : (at : ℕ) (t : Tree) → length b < THREE_BYTES → tree_at s b (width_bytes b) 1 at ≡ got t (length b) → TreeAt s b (syntax_tree b t) at
   unfolding tree_at
   tree_at_lem at t small h =
       let k = kid s b 64 1 at (length b) t (length b) (omega arith) small (λ w q. rw (← q) end_clear) h in
       one_tree at (length b) t k.1 (sym k.0)
 
-  pub root_at : (ordered : Bool) (n at : ℕ) (r : Root ordered s b n at) → TreeAt s b (syntax_tree b r.tree) at
-  root_at ordered n at r = tree_at_lem at r.tree (omega (arith, r.head.size, r.head.short)) r.reads
+  pub root_at : (may : ℕ → Bool) (ordered : Bool) (n at : ℕ) (r : Root may ordered s b n at) → TreeAt s b (syntax_tree b r.tree) at
+  root_at may ordered n at r = tree_at_lem at r.tree (omega (arith, r.head.size, r.head.short)) r.reads
 
-  -- The tree of an accepted image, whichever rule its comment list was read by.
-  pub image_stands : (ordered : Bool) (i : Image) (q : ℕ) → read_image ordered s b ≡ got i q → TreeAt s b (syntax_tree b i.tree) i.at
-  image_stands ordered i q h =
-      let r = rooted ordered s b (document_of i) (ap outcome h) in
+  -- The tree of an accepted image, whichever versions may be read, and whichever rule its comment list was read by.
+  pub image_stands : (may : ℕ → Bool) (ordered : Bool) (i : Image) (q : ℕ) → read_image may ordered s b ≡ got i q
+      → TreeAt s b (syntax_tree b i.tree) i.at
+  image_stands may ordered i q h =
+      let r = rooted may ordered s b (document_of i) (ap outcome h) in
       let same : record { comments = i.comments; tree = r.tree; at = i.at } ≡ i = cc r.whole in
-      rw (← ap (λ (j : Image). j.tree) same) (root_at ordered i.comments i.at r)
+      rw (← ap (λ (j : Image). j.tree) same) (root_at may ordered i.comments i.at r)
 
   -- The same of source and image.
   pub stands : (i : Image) (q : ℕ) → read_all s b ≡ got i q → TreeAt s b (syntax_tree b i.tree) i.at
-  unfolding read_all
+  unfolding read_with
   stands i q h = go (source_fits s) (well_formed s) h
     where
-      go : (x y : Bool) → cond (not x) (bad 1 0) (cond (not y) (bad 2 (prefix s)) (read_image false s b)) ≡ got i q
+      go : (x y : Bool) → cond (not x) (bad 1 0) (cond (not y) (bad 2 (prefix s)) (read_image any_version false s b)) ≡ got i q
           → TreeAt s b (syntax_tree b i.tree) i.at
-      go true true h = image_stands false i q h
+      go true true h = image_stands any_version false i q h
       go true false h = absurd (false≢true (ap is_got h))
       go false y h = absurd (false≢true (ap is_got h))

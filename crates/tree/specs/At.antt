@@ -3,8 +3,8 @@
 use Rattle.std.specs.Prelude.{ℕ, ◌+◌, ◌≤◌, ◌<◌, ◌≡◌, true, false, List, [], ◌∷◌, length, get_or, Option, None, Some}
 use Rattle.text.specs.Utf8.{well_formed, continues}
 use Rattle.text.specs.Newlines.{is_range}
-use Rattle.image.specs.Bytes.{be16, be32, part}
-use Rattle.image.specs.Read.{stop_at, kind_at}
+use Rattle.image.specs.Bytes.{be32, part}
+use Rattle.image.specs.Read.{width_bytes, stored_width, stop_at, kind_at}
 use Rattle.image.specs.Limits.{MAX_RECORDS_DEEP}
 use Rattle.image.specs.Kinds.{ARM, BLOCK, CONST, ENUM, ENUM_VARIANT, EXPR_PART, FIELD, FILTER_MAP, FUNCTION, IMPORT, LIST, LITERAL, NAME_AND_TYPE}
 use Rattle.image.specs.Kinds.{OPERATOR, PATH, RECORD, RECORD_FIELDS, TEST, TEXT, TEXT_PART, TREE, UNDERSCORE, VARIANT}
@@ -104,14 +104,14 @@ module _ (s b : List ℕ) where
   abbrev pub Ends : ℕ → ℕ → Type 0
   Ends last at = Done (past last) (past at)
 
-  -- a text: its width in two bytes, then its bytes to the record's end
+  -- a text: its width, then its bytes to the record's end
   pub record IdentAt (i : Ident) (at : ℕ) : Type 0 where
     pub head : Head s b TEXT i.span at
-    pub wide : be16 b (at + 13) ≡ i.width
-    pub starts : at + 15 ≡ i.start
+    pub wide : stored_width b at ≡ i.width
+    pub starts : at + 13 + width_bytes b ≡ i.start
     pub ends : i.start + i.size ≡ past at
     -- it is UTF-8, and what stands behind it continues no character of it
-    pub formed : well_formed (part (at + 15) (past at) b) ≡ true
+    pub formed : well_formed (part (at + 13 + width_bytes b) (past at) b) ≡ true
     pub clear : Clear b (past at)
 
   -- texts one after the other, up to `end`

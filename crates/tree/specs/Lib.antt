@@ -3,3 +3,4 @@ pub mod Records
 pub mod Walk
 pub mod CommentList
 pub mod FormKinds
+pub mod Contents

@@ -1,8 +1,7 @@
 -- The syntax tree of src/ast.rs that the records of an image are: a total function on the trees that the reader gives. Where the grammar
 -- rules a tree out, what it gives does not matter.
 use Rattle.std.specs.Prelude.{ℕ, ◌+◌, ◌-◌, List, [], ◌∷◌, Bool, true, false, cond, get_or, eqb, Option, None, Some}
-use Rattle.image.specs.Bytes.{be16}
-use Rattle.image.specs.Read.{Head, Tree, Trees, absent, node, nil, ◌▸◌}
+use Rattle.image.specs.Read.{width_bytes, stored_width, Head, Tree, Trees, absent, node, nil, ◌▸◌}
 use Rattle.image.specs.Kinds.{ACCESS, ASSIGN, BIN_OP, BLOCK_EXPR, COMPOUND_ASSIGN, CONST, ENUM, F_STRING, FILTER_MAP, FOR, FUNCTION}
 use Rattle.image.specs.Kinds.{FUNCTION_CALL, IF_ELSE, IMPORT_STMT, LET, LIST_EXPR, LITERAL_EXPR, MATCH, NEGATE, NEVER, NOT, OPTION, PATH_EXPR}
 use Rattle.image.specs.Kinds.{QUESTION_MARK, RECORD, RECORD_EXPR, RETURN, TEST, TEXT_PART, TYPE_PATH, TYPED_RECORD, UNDERSCORE, UNIT, WHILE}
@@ -251,9 +250,11 @@ module _ (b : List ℕ) where
   abbrev pub byte_of : Head → ℕ
   byte_of h = get_or b (h.at + 13) 0
 
-  -- a text's width is in two bytes, then its bytes up to the record's end
+  -- a text: its width, then its bytes up to the record's end
   abbrev pub ident_of : Head → Ident
-  ident_of h = record { span = span_of h; width = be16 b (h.at + 13); start = h.at + 15; size = h.stop - (h.at + 15) }
+  ident_of h =
+      let start = h.at + 13 + width_bytes b in
+      record { span = span_of h; width = stored_width b h.at; start = start; size = h.stop - start }
 
   abbrev pub views_of : Head → List Views → Views
   views_of h xs =

@@ -5,9 +5,9 @@ use mathlib.Core.Bool.{Bool, cond}
 use mathlib.Core.List.{[], ◌++◌, append-nil, append_assoc}
 use native.Mathlib.Omega.{arith}
 use borrow.Author.Tests.{lt-ltb, le-ltb}
-use Rattle.text.specs.Newlines.{is_range}
+use Rattle.text.specs.Newlines.{is_range, count_newlines, newline_places}
 use Rattle.image.specs.Read.{header, comment_fits, comments_from, comments as comment_list, shape, opens, children_at, skips, record_at, tree_at, read_tree}
-use Rattle.image.specs.Read.{read_image, source_fits, read_all}
+use Rattle.image.specs.Read.{read_image, source_fits, read_with, width_bytes, stored_width}
 use Rattle.image.specs.Bytes.{be16, be32}
 use Rattle.image.specs.Grammar.{row_of, row_under_of, kind_fits_of, payload_fits, first_child}
 use Rattle.image.specs.Write.{written}
@@ -20,7 +20,6 @@ use Rattle.rows.specs.View.{view_of, node_of, decode, nodes_at}
 use Rattle.tree.specs.CommentList.{comments_of, pairs_at}
 use Rattle.rows.specs.Words.{place_in, word, joined, words}
 use Rattle.acts.specs.Act.{◌⨟◌, ◌⨟?◌, ◌⨟!◌, grouped, indented as indents}
-use Rattle.text.specs.Newlines.{count_newlines, newline_places}
 use Rattle.text.specs.Utf8.{char_at, decoded, scalar, char_before, ending, ends}
 use Rattle.text.specs.Space.{something, seek, one_of, trim_end, trim}
 use Rattle.comments.specs.Comments as comments
@@ -40,14 +39,15 @@ use Rattle.whole_run.specs.Edges.{newline, EdgesHold, WidthsHold, EmptyLineHolds
 
 pub edges_hold : EdgesHold
 unfolding header comment_fits comments_from comment_list shape opens children_at skips record_at tree_at read_tree read_image source_fits
-    read_all be16 be32 row_of
+    read_with width_bytes stored_width be16 be32 row_of
     row_under_of kind_fits_of payload_fits first_child written within row_in followed sequence runs prefix well_formed boundary is_range views syntax_tree bytes
     must_wrap must_wraps width widths size sizes rows_of rows view_of node_of decode nodes_at comments_of pairs_at push_str at_column
     new_line margin comment text
     virtual_column insert indent_more indent_less next_indent_more next_indent_less wraps group_wraps trailing_call callee_wraps render_node
     render_nodes origin_text
     text_bytes
-    reaches parts_fit row_fits_of first_wrong wrong_row_of places_fit places_fit_by wrong_place_by summed summed_all str_columns ascii_columns columns_by edition_of
+    reaches parts_fit row_fits_of first_wrong wrong_row_of places_fit places_fit_by wrong_place_by summed summed_all str_columns
+    ascii_columns columns_by edition_of
     marks_needed place_in word
     joined words ◌⨟◌ ◌⨟?◌ ◌⨟!◌ join grouped indents count_newlines newline_places char_at decoded scalar something seek one_of trim_end trim char_before ending
     ends shebang_rule declaration declares

@@ -2,20 +2,21 @@
 -- that the first call leaves. Where a line before 8 refuses the file, neither is made.
 -- Assumes nothing.
 use mathlib.Core.Path.{◌≡◌, refl, sym, ap, ap₂, subst₂, ◌∙◌}
-use mathlib.Core.Bool.{Bool, true, false, cond, not}
+use mathlib.Core.Bool.{Bool, true, false, cond, not, ◌||◌}
+use mathlib.Core.Logic.{◌⊎◌, inl, inr}
 use Rattle.std.specs.Prelude.{Option, None}
 use mathlib.Core.List.{List, [], ◌∷◌, ◌++◌}
 use Prim.Native.Nat.{ℕ, ◌+◌, ◌*◌, ◌-◌, ◌≤◌, max}
 use native.Mathlib.Omega.{arith}
 use native.Mathlib.Nat.{sub-zero, zero-add}
 use lib.Dec.{ltb, eqb}
-use lib.ListN.{length, get_or, drop, replicate}
+use lib.ListN.{length, drop, replicate}
 use lib.Seq.{take-append-le, take-append_seam}
 use borrow.Author.Tests.{le-ltb, le-leb, eq-eqb}
 use Rattle.text.specs.Utf8.{prefix, well_formed, ill_formed}
 use Rattle.rows.specs.Places.{PLACES}
 use Rattle.image.specs.Bytes.{be32}
-use Rattle.image.specs.Read.{Read, got, bad, Image, header, source_fits, read_all, document_of, outcome, read_refusal}
+use Rattle.image.specs.Read.{Read, got, bad, Image, version, any_version, header, header_fits, source_fits, read_all, document_of, outcome, read_refusal}
 use Rattle.image.proofs.Accepted.{Header, accepted}
 use Rattle.rows.specs.Node.{Nodes}
 use Rattle.rows.specs.Rows.{sizes, rows}
@@ -65,15 +66,20 @@ formed_passes rule s h = go (eqb rule SUPPLIED)
     go true = refl
     go false = ap (λ (t : Bool). refuse_if (not t) 2 (prefix s)) h
 
-fits_header : (b : List ℕ) → Header b → header b ≡ true
+fits_version : (n : ℕ) → (n ≡ 1) ⊎ (n ≡ 2) → eqb n 1 || eqb n 2 ≡ true
+fits_version n (inl e) = rw e
+fits_version n (inr e) = rw e
+
+fits_header : (b : List ℕ) → Header any_version b → header_fits any_version b ≡ true
 unfolding header
 fits_header b h =
-    rw (
+    simp (
       le-leb 5 (length b) (omega (arith, h.size)),
-      eq-eqb (get_or b 0 0) 1 h.version,
+      fits_version (version b) h.known,
       eq-eqb (5 + be32 b 1) (length b) h.size,
       le-leb (be32 b 1) 1048576 h.short,
     )
+    h.may_be
 
 module _ (s b : List ℕ) where
   abbrev count : ℕ

@@ -13,9 +13,9 @@ use lib.Dec.{leb, eqb}
 use lib.ListN.{length, get_or, replicate}
 use borrow.Author.Tests.{leb-true, eqb-true, not-false}
 use Rattle.laws.proofs.Booleans.{and_right}
-use Rattle.image.specs.Bytes.{be16}
 use Rattle.image.specs.Limits.{MAX_SOURCE}
-use Rattle.image.specs.Read.{header, source_fits, read_all}
+use Rattle.image.proofs.Versions.{stored_small}
+use Rattle.image.specs.Read.{header_fits, any_version, source_fits, read_all}
 use Rattle.image.proofs.Accepted.{headed}
 use Rattle.rows.specs.Node.{Text, Node, Nodes, group, indent, indent_next, wrap_parent, comment}
 use Rattle.rows.specs.Node.{str, ascii, line, empty_line, line_or_space, if_wrap, call, ◌then◌}
@@ -121,10 +121,10 @@ unfolding source_fits
 sized rule s b e =
     let one = refuse_if (not (source_fits s)) 1 0 in
     let two = formed_line rule s in
-    let three = refuse_if (not (header b)) 3 0 in
+    let three = refuse_if (not (header_fits any_version b)) 3 0 in
     let f = not_if (not (source_fits s)) 1 0 (passes_line one (two ∷ three ∷ []) e) in
     let behind = passes_others two (three ∷ []) (passes_others one (two ∷ three ∷ []) e) in
-    let h = headed b (not-false _ (not_if (not (header b)) 3 0 (passes_line three [] behind))) in
+    let h = headed any_version b (not-false _ (not_if (not (header_fits any_version b)) 3 0 (passes_line three [] behind))) in
     record { source = leb-true (length s) MAX_SOURCE (not-false _ f); image = omega (arith, h.size, h.short) }
 
 module _ {s b : List ℕ} (z : Sized s b) where
@@ -179,8 +179,7 @@ module _ {s b : List ℕ} (z : Sized s b) where
     f = str_columns chosen s b
 
     supplied_width : (w : ℕ) (t : Text) → Supplied (given s b) w t → w ≤ 65535
-    unfolding be16
-    supplied_width w t p = omega (arith, p.same, bytes p.at, bytes (p.at + 1))
+    supplied_width w t p = omega (arith, p.same, stored_small b p.at (bytes (p.at + 13)) (bytes (p.at + 13 + 1)))
 
     part_short : (t : Text) → length (text_bytes s b t) ≤ t.size
     part_short t = text_size s b t

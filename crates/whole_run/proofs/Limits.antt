@@ -9,11 +9,10 @@ use Prim.Native.Nat.{ℕ, ◌+◌, ◌*◌, ◌≤◌}
 use native.Mathlib.Omega.{arith}
 use native.Mathlib.Nat.{zero-add}
 use lib.ListN.{length, get_or, take, drop, take-append-drop}
-use borrow.Author.Tests.{le-leb}
 use Rattle.text.specs.Utf8.{well_formed}
-use Rattle.image.specs.Read.{Read, got, bad, Image, source_fits, read_image, read_all, document_of, outcome, read_refusal, Accepts}
+use Rattle.image.specs.Read.{Read, got, bad, Image, any_version, read_image, read_all, document_of, outcome, read_refusal, Accepts}
 use Rattle.image.specs.declared.Document.{Document}
-use Rattle.image.proofs.Accepted.{accepted}
+use Rattle.image.proofs.Accepted.{read_inside, accepted}
 use Rattle.ast.specs.Syntax.{SyntaxTree}
 use Rattle.rows.specs.Places.{PLACES}
 use Rattle.rows.specs.Rows.{sizes, rows}
@@ -37,9 +36,8 @@ module _ (s b : List ℕ) where
   g = given s b
 
   -- ---- the tree of an accepted image stands in it
-  reads_image : length s ≤ 65536 → well_formed s ≡ true → read_all s b ≡ read_image false s b
-  unfolding read_all source_fits
-  reads_image h w = rw (le-leb (length s) 65536 h, w)
+  reads_image : length s ≤ 65536 → well_formed s ≡ true → read_all s b ≡ read_image any_version false s b
+  reads_image = read_inside any_version false s b
 
   -- an accepted source and image have the tree at the answered offset
   pub standing : (d : Document) → Accepts s b d → Stands g (accepted_tree b (read_all s b)) d.tree
@@ -49,7 +47,7 @@ module _ (s b : List ℕ) where
       let n = d.comments in
       let at = d.tree in
       let same : read_all s b ≡ got (record { comments = n; tree = c.tree; at = at }) (length b) = reads_image a.short a.well ∙ c.whole in
-      subst (λ (t : SyntaxTree). Stands g t at) (sym (ap (accepted_tree b) same)) (stands false s b n at a.well c)
+      subst (λ (t : SyntaxTree). Stands g t at) (sym (ap (accepted_tree b) same)) (stands any_version false s b n at a.well c)
 
   -- where the tree of what was read stands
   pub record Stood (r : Read Image) : Type 0 where

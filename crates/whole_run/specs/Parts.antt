@@ -3,7 +3,7 @@
 use Rattle.std.specs.Prelude.{Bool, true, cond, not, List, [], ◌∷◌, map, ℕ, ◌+◌, ◌-◌, eqb, length, Option, None, Some}
 use Rattle.text.specs.Utf8.{ill_formed}
 use Rattle.text.specs.Space.{trim_end}
-use Rattle.image.specs.Read.{Read, got, bad, Image, header, source_fits, read_all, read_refusal}
+use Rattle.image.specs.Read.{Read, got, bad, Image, header_fits, any_version, source_fits, read_all, read_refusal}
 use Rattle.ast.specs.Syntax.{Declaration, SyntaxTree}
 use Rattle.tree.specs.Records.{syntax_tree}
 use Rattle.rows.specs.Rows.{sizes, rows}
@@ -39,7 +39,7 @@ formed_line rule s = cond (eqb rule SUPPLIED) None (ill_formed s)
 
 -- "rendering 1, 3 by the same tests"
 abbrev pub render_image : ℕ → List ℕ → List ℕ → Option Refusal
-render_image rule s b = first (refuse_if (not (source_fits s)) 1 0 ∷ formed_line rule s ∷ refuse_if (not (header b)) 3 0 ∷ [])
+render_image rule s b = first (refuse_if (not (source_fits s)) 1 0 ∷ formed_line rule s ∷ refuse_if (not (header_fits any_version b)) 3 0 ∷ [])
 
 -- the comment list as `Comment` rows have it: of the source, trimmed at the end
 abbrev pub listed : List ℕ → List ℕ → List Text

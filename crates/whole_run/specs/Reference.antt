@@ -3,7 +3,7 @@
 -- The definitions here have no choice; proofs/Reference.antt proves that those with a choice are these at 80 and in the old mode.
 use Rattle.std.specs.Prelude.{◌⊎◌, ◌≡◌, Bool, true, not, List, [], ◌∷◌, ◌++◌, ℕ, ◌-◌, max, ltb, length, take, replicate, Option, None}
 use Rattle.widths.specs.Rules.{SUPPLIED}
-use Rattle.image.specs.Read.{header, source_fits, read_all, read_refusal}
+use Rattle.image.specs.Read.{header_fits, any_version, source_fits, read_all, read_refusal}
 use Rattle.rows.specs.View.{view_of, nodes_at}
 use Rattle.rows.specs.Rows.{sizes, rows}
 use Rattle.acts.specs.Act.{Out}
@@ -88,7 +88,7 @@ module _ (s b : List ℕ) where
 
   -- 1 and 3
   abbrev pub image_then : Option Refusal
-  image_then = first (refuse_if (not (source_fits s)) 1 0 ∷ refuse_if (not (header b)) 3 0 ∷ [])
+  image_then = first (refuse_if (not (source_fits s)) 1 0 ∷ refuse_if (not (header_fits any_version b)) 3 0 ∷ [])
 
   -- 12, of the next row, the pen and the marks
   abbrev pub tests_then : ℕ → RenderState → List ℕ → List ℕ → List Bool

@@ -14,7 +14,7 @@ use Rattle.image.specs.Read.{Read, got, bad, bind}
 use Rattle.image.specs.Write.{Plain, without, plainly, written}
 use Rattle.steps.specs.Rows.{short}
 use Rattle.steps.specs.Writer.{payload_from, record_from}
-use Rattle.steps.proofs.Views.{never}
+use Rattle.image.proofs.Got.{never}
 use Rattle.steps.proofs.Taken.{payload_taken}
 use Rattle.steps.proofs.Sizes.{row_short, short_gone, short_here, payload_size, record_from_size}
 use Rattle.writer.specs.Steps.{stands, child_from}

@@ -13,14 +13,14 @@ use borrow.Author.Tests.{le-leb, leb-false}
 use Rattle.laws.proofs.Booleans.{clash}
 use Rattle.image.specs.Bytes.{be32, part}
 use Rattle.image.specs.Read.{Read, got, bad, bind}
-use Rattle.image.specs.Write.{bytes4}
-use Rattle.image.proofs.Exact.{Small}
+use Rattle.image.specs.Write.{bytes4, Bytes}
 use Rattle.ast.specs.Syntax.{Span}
 use Rattle.tree.specs.CommentList.{span}
-use Rattle.steps.specs.Steps.{Step, comment_step, pair_bytes}
+use Rattle.steps.specs.Steps.{Step, comment_step}
+use Rattle.tree.specs.Contents.{pair_bytes}
 use Rattle.steps.specs.Writer.{step_from, pair_by, comments_from}
-use Rattle.steps.proofs.Took.{took_four, took_join, took_is}
-use Rattle.steps.proofs.Views.{never}
+use Rattle.tree.proofs.Took.{took_four, took_join, took_is}
+use Rattle.image.proofs.Got.{never}
 use Rattle.writer.specs.Steps.{stands, taken}
 use Rattle.writer.specs.Put.{Ran, fault, up_to, put_by}
 use Rattle.writer.proofs.Seen.{stood, Seen, seen, comment, opened, text, payload, absent, close, wrong}
@@ -106,11 +106,11 @@ module _ (l : List ℕ) (at : ℕ) where
   from_next (suc n) z e f = rw (sub-one, sym is_comment ∙ e, (was_pair f).1)
 
   -- ---- one comment is put
-  pair_part : Small l → at + 9 ≤ length l → part (at + 1) (at + 9) l ≡ bytes4 (be32 l (at + 1)) ++ bytes4 (be32 l (at + 5))
+  pair_part : Bytes l → at + 9 ≤ length l → part (at + 1) (at + 9) l ≡ bytes4 (be32 l (at + 1)) ++ bytes4 (be32 l (at + 5))
   pair_part small h =
       took_is (took_join (took_four l (at + 1) (at + 5) (omega arith) (omega arith)) (took_four l (at + 5) (at + 9) (omega arith) h)) small
 
-  next_put : (n pos : ℕ) (out o : List ℕ) → Small l → ¬ (n ≡ 0) → stands l at 1 1 ≡ true → taken pair ≡ true
+  next_put : (n pos : ℕ) (out o : List ℕ) → Bytes l → ¬ (n ≡ 0) → stands l at 1 1 ≡ true → taken pair ≡ true
       → o ≡ sets out pos (part (at + 1) (at + 9) l)
       → put_by pair_bytes pos out (comments_from l n at) ≡ put_by pair_bytes (pos + 8) o (comments_from l (n - 1) (at + 9))
   next_put n pos out o small z e f h = rw (from_next n z e f) (go (comments_from l (n - 1) (at + 9)))
@@ -137,7 +137,7 @@ pub record Listing (l : List ℕ) (whole : Ran) (left at pos : ℕ) (out : List 
   pub low : pos ≤ 7 + at
   pub same : whole ≡ put_by pair_bytes pos out (comments_from l left at)
 
-pub lists_on : {l : List ℕ} {whole : Ran} {left at pos : ℕ} {out : List ℕ} → Listing l whole left at pos out → (o : List ℕ) → Small l
+pub lists_on : {l : List ℕ} {whole : Ran} {left at pos : ℕ} {out : List ℕ} → Listing l whole left at pos out → (o : List ℕ) → Bytes l
     → ¬ (left ≡ 0) → stands l at 1 1 ≡ true → taken (bind (step_from l at) (pair_by at)) ≡ true
     → o ≡ sets out pos (part (at + 1) (at + 9) l) → Listing l whole (left - 1) (at + 9) (pos + 8) o
 lists_on {l} {whole} {left} {at} {pos} {out} g o small z e f h =

@@ -20,14 +20,16 @@ use Rattle.image.specs.Kinds.{TREE}
 use Rattle.image.specs.Limits.{MAX_COMMENTS, MAX_RECORDS_DEEP}
 use Rattle.image.specs.Grammar.{is_optional, place, after, row_of, row_under_of}
 use Rattle.image.specs.Read.{Read, got, bad}
-use Rattle.image.specs.Write.{Plain, Plains, bytes4, written, writtens}
+use Rattle.image.specs.Write.{Plain, Plains, bytes4, written, writtens, bytes2}
 use Rattle.image.proofs.Shapes.{kind_range}
 use Rattle.ast.specs.Syntax.{Span}
-use Rattle.steps.specs.Steps.{list_bytes, payload_steps, tree_steps, child_steps, close_step, bytes2, pair_bytes, Contents, image_of}
+use Rattle.steps.specs.Steps.{list_bytes, payload_steps, tree_steps, child_steps, close_step}
+use Rattle.tree.specs.Contents.{pair_bytes, Contents, image_of}
 use Rattle.steps.specs.Writer.{comments_from, record_from, contents_from, image_by, image_due, writer_answer, writer_output}
-use Rattle.steps.proofs.Fits.{Fits, fits, FitsRow, ends, gone, here}
+use Rattle.tree.proofs.Fits.{Fits, fits, FitsRow, ends, gone, here}
 use Rattle.steps.proofs.Taken.{list_append, record_taken}
-use Rattle.steps.proofs.Sizes.{record_size, payload_size, pairs_size}
+use Rattle.steps.proofs.Sizes.{record_size, payload_size}
+use Rattle.tree.proofs.WholeFits.{pairs_size}
 use Rattle.writer.specs.Put.{put_of, put_by}
 use Rattle.writer.specs.Wrote.{measures, measured}
 use Rattle.writer.specs.declared.output.Output.{Output}
@@ -36,7 +38,7 @@ use Rattle.writer.proofs.Runs.{was_held, was_fault}
 use Rattle.writer.proofs.Commented.{comments_got}
 
 -- ---- the tree leaves room for the image's head: only one of its places may be empty
-steady : {left row : ℕ} {xs : Plains} → FitsRow left row xs → is_optional (place row) ≡ false → after row ≡ row
+steady : {left row : ℕ} {xs : Plains} → FitsRow 2 left row xs → is_optional (place row) ≡ false → after row ≡ row
     → length (writtens xs) ≤ 2 * length (list_bytes (child_steps xs))
 unfolding writtens child_steps
 steady (ends c) o e = omega arith
@@ -52,7 +54,7 @@ steady (here {row = row} {x = y} {xs = ys} z x more) o e =
     )
     (omega arith)
 
-once : {left row : ℕ} {xs : Plains} → FitsRow left row xs → is_optional (place (after row)) ≡ false → after (after row) ≡ after row
+once : {left row : ℕ} {xs : Plains} → FitsRow 2 left row xs → is_optional (place (after row)) ≡ false → after (after row) ≡ after row
     → length (writtens xs) ≤ 2 * length (list_bytes (child_steps xs)) + 2
 unfolding writtens child_steps
 once (ends c) o e = omega arith
@@ -68,7 +70,7 @@ once (here {row = row} {x = y} {xs = ys} z x more) o e =
     )
     (omega arith)
 
-root_size : {left p : ℕ} {x : Plain} → Fits left p x → p ≡ TREE → length (written x) + 7 ≤ 2 * length (list_bytes (tree_steps x))
+root_size : {left p : ℕ} {x : Plain} → Fits 2 left p x → p ≡ TREE → length (written x) + 7 ≤ 2 * length (list_bytes (tree_steps x))
 unfolding written tree_steps row_under_of row_of
 root_size (fits {p = p} {kind = kind} {x = x} {xs = xs} right order pays row) e =
     let r = kind_range TREE kind refl (rw e at right) in
@@ -110,7 +112,7 @@ module _ (l : List ℕ) where
   contents_whole cs at x end e f h = rw (e, f, le-ltb end (length l) h)
 
   image_length : (cs : List Span) (x : Plain)
-      → length (image_of (record { comments = cs; tree = x })) ≡ 7 + length (pair_bytes cs) + length (written x)
+      → length (image_of 1 (record { comments = cs; tree = x })) ≡ 7 + length (pair_bytes cs) + length (written x)
   image_length cs x = let e = length-append (pair_bytes cs) (written x) in omega arith
 
   pub is_measured : (cs : List Span) (at : ℕ) (x : Plain) (end pairs bytes : ℕ) → comments_from l MAX_COMMENTS 0 ≡ got cs at
@@ -119,7 +121,7 @@ module _ (l : List ℕ) where
   is_measured cs at x end pairs bytes e f h p q =
       let k = comments_got l MAX_COMMENTS 0 cs at (omega arith) e in
       let a : at ≡ 9 * length cs = omega (arith, k.ends) in
-      let n : 7 + pairs + bytes ≡ length (image_of (record { comments = cs; tree = x })) = sym (image_length cs x ∙ omega arith) in
+      let n : 7 + pairs + bytes ≡ length (image_of 1 (record { comments = cs; tree = x })) = sym (image_length cs x ∙ omega arith) in
       ap₂ measures a n ∙ sym (ap measured (contents_whole cs at x end e f h))
 
   -- ---- what was measured
@@ -137,7 +139,7 @@ module _ (l : List ℕ) where
     pub count : at ≡ 9 * length comments
     pub few : length comments ≤ 8192
     pub inside : at ≤ length l
-    pub image : image_due l ≡ image_of (record { comments = comments; tree = tree })
+    pub image : image_due l ≡ image_of 1 (record { comments = comments; tree = tree })
     pub size : bytes ≡ 7 + 8 * length comments + length (written tree)
 
   parts_by : (at bytes : ℕ) (r : Read (List Span)) → comments_from l MAX_COMMENTS 0 ≡ r → measures at bytes ≡ measured (contents_from l)
@@ -163,11 +165,11 @@ module _ (l : List ℕ) where
               absurd (omega arith)
           done false b =
               let c = contents_whole cs a x end e f (omega (arith, ltb-false end (length l) b)) in
-              let w : measures at bytes ≡ measures (9 * length cs) (length (image_of (record { comments = cs; tree = x }))) = h ∙ ap measured c in
+              let w : measures at bytes ≡ measures (9 * length cs) (length (image_of 1 (record { comments = cs; tree = x }))) = h ∙ ap measured c in
               let k = comments_got l MAX_COMMENTS 0 cs a (omega arith) e in
               let m = same_measure at bytes _ _ w in
               let p : at ≡ 9 * length cs = m.0 in
-              let q : bytes ≡ length (image_of (record { comments = cs; tree = x })) = m.1 in
+              let q : bytes ≡ length (image_of 1 (record { comments = cs; tree = x })) = m.1 in
               let same : a ≡ at = omega (arith, k.ends) in
               record {
                 comments = cs;
@@ -257,8 +259,8 @@ module _ (l out : List ℕ) where
           (rw e (ap refused a), rw e)
 
   module _ (at bytes : ℕ) (h : measures at bytes ≡ measured (contents_from l)) where
-    due_length : (c : Contents) (end : ℕ) → contents_from l ≡ got c end → length (image_of c) ≡ bytes
-    due_length c end e = sym (same_measure l at bytes (9 * length c.comments) (length (image_of c)) (h ∙ ap measured e)).1
+    due_length : (c : Contents) (end : ℕ) → contents_from l ≡ got c end → length (image_of 1 c) ≡ bytes
+    due_length c end e = sym (same_measure l at bytes (9 * length c.comments) (length (image_of 1 c)) (h ∙ ap measured e)).1
 
     pub answers_long : (ltb 1048581 bytes || ltb (length out) bytes) ≡ true
         → (refused (record { number = 17; place = bytes }) ≡ writer_answer l (length out)) × (out ≡ writer_output l out)

@@ -1,57 +1,55 @@
 -- The loops over an accepted image, and what is listed of the whole.
 -- Assumes nothing.
+use mathlib.Core.Bool.{false}
 use mathlib.Core.Path.{◌≡◌, refl, sym, ap, ap₂, subst, ◌∙◌}
-use mathlib.Core.Bool.{Bool, true, false, cond}
 use mathlib.Core.List.{List, [], ◌∷◌, ◌++◌, map}
 use Prim.Native.Nat.{ℕ, zero, suc, ◌+◌, ◌-◌, ◌*◌, ◌≤◌, ◌<◌}
 use native.Mathlib.Omega.{arith}
-use lib.Dec.{ltb, eqb}
+use lib.Dec.{eqb}
 use lib.ListN.{length, length-append}
 use lib.Seq.{sets, take-append_seam, drop-append_seam}
 use Rattle.std.specs.Prelude.{take, drop, min}
-use borrow.Author.Tests.{le-leb, lt-ltb, le-ltb, ltb-false}
+use borrow.Author.Tests.{lt-ltb, le-ltb, eqb-true}
 use Rattle.refusals.specs.Refusals.{Refusal}
 use Rattle.refusals.specs.Answers.{refused, accepted}
 use Rattle.image.specs.Bytes.{be16, be32, part}
-use Rattle.image.specs.Grammar.{bare, place, after, complete, row_under_of}
-use Rattle.image.specs.Read.{Read, got, bad, bind, head_at, stop_at, kind_at, Tree, Trees, absent, node, nil, ◌▸◌, Image, skips}
-use Rattle.image.specs.Read.{child_at, record_at, children_at, tree_at, read_image, read_all, source_fits, document_of, outcome}
+use Rattle.image.specs.Read.{Read, got, bad, head_at, stop_at, kind_at, Tree, Trees, absent, node, nil, ◌▸◌, Image}
+use Rattle.image.specs.Read.{version, read_version, document_of, outcome}
 use Rattle.image.specs.declared.Document.{Document}
-use Rattle.image.specs.Write.{bytes4, plain, plains}
-use Rattle.image.proofs.Exact.{Small, join, part_length}
-use Rattle.image.proofs.Shapes.{opened_order, skips_within, text_payload}
-use Rattle.image.proofs.Inside.{inside, none_deep}
-use Rattle.image.proofs.Accepted.{accepted as input}
+use Rattle.image.specs.Write.{bytes4, plain, plains, Bytes}
+use Rattle.image.proofs.Exact.{join, part_length}
 use Rattle.ast.specs.Syntax.{Span}
 use Rattle.tree.specs.CommentList.{pairs_at, comments_of}
 use Rattle.steps.specs.Steps.{comment_step, list_bytes, payload_steps, tree_steps, child_steps}
 use Rattle.steps.specs.OfImage.{steps_of, steps_of_answer, steps_of_output}
 use Rattle.steps.proofs.Taken.{list_append}
-use Rattle.steps.proofs.Took.{took_four, took_join, took_is}
-use Rattle.steps.proofs.Views.{never, bind_got, passed, stayed}
-use Rattle.writer.specs.Stands.{Whole, Stands, Row, Puts, TreeThere, RowThere, ImageThere, PutsTree, PutsRow, PutsImage, tree_bytes, row_bytes}
+use Rattle.tree.proofs.Took.{took_four, took_join, took_is}
+use Rattle.writer.specs.Stands.{Puts, TreeThere, RowThere, ImageThere, PutsTree, PutsRow, PutsImage, tree_bytes, row_bytes}
+use Rattle.image.specs.Standing.{Whole, Stands, Row}
+use Rattle.image.proofs.Versions.{two_bytes}
+use Rattle.image.proofs.Standing.{There, there, tree_ends, row_order, first_behind}
 use Rattle.writer.proofs.Stores.{sets_behind}
-use Rattle.writer.proofs.Standing.{tree_ends, row_order, first_behind, payload_bytes, tree_bytes_lem, row_bytes_lem, puts_join}
+use Rattle.writer.proofs.Standing.{payload_bytes, tree_bytes_lem, row_bytes_lem, puts_join}
 
 -- ---- the loop over trees: what is ahead is the rest of any trees that stand there
 pub record Ahead (b : List ℕ) (first stop start : ℕ) (out₀ : List ℕ) (ts : Trees) (at pos : ℕ) (out : List ℕ) : Type 0 where
   pub rest : Trees
-  pub stands : Row b rest at stop
+  pub stands : Row b 2 rest at stop
   pub place : pos + length (row_bytes b rest) ≡ start + length (row_bytes b ts)
   pub output : sets out pos (row_bytes b rest) ≡ sets out₀ start (row_bytes b ts)
 
 pub record Rows (b : List ℕ) (first stop start : ℕ) (out₀ : List ℕ) (at pos : ℕ) (out : List ℕ) : Type 0 where
   pub from : first ≤ at
   pub below : pos ≤ 2 * at
-  pub ahead : (ts : Trees) → Row b ts first stop → Ahead b first stop start out₀ ts at pos out
+  pub ahead : (ts : Trees) → Row b 2 ts first stop → Ahead b first stop start out₀ ts at pos out
 
 pub rows_none : (b : List ℕ) (first stop start : ℕ) (out : List ℕ) → RowThere b first stop start → Rows b first stop start out first start out
 rows_none b first stop start out r =
     record { from = omega arith; below = r.below; ahead = λ ts s. record { rest = ts; stands = s; place = refl; output = refl } }
 
 -- the child at `at`
-pub row_child : (b : List ℕ) (ts : Trees) (at stop : ℕ) → Row b ts at stop → at < stop
-    → (t : Tree) × (us : Trees) × (ts ≡ t ▸ us) × Stands b t at (stop_at b at) × Row b us (stop_at b at) stop
+pub row_child : (b : List ℕ) (ts : Trees) (at stop : ℕ) → Row b 2 ts at stop → at < stop
+    → (t : Tree) × (us : Trees) × (ts ≡ t ▸ us) × Stands b 2 t at (stop_at b at) × Row b 2 us (stop_at b at) stop
 unfolding Row
 row_child b nil at stop s h = absurd (omega arith)
 row_child b (t ▸ us) at stop s h = (t, us, refl, s.0, s.1)
@@ -65,7 +63,7 @@ row_tree b first stop start out₀ at pos out r g h =
 
 pub tree_within : (b : List ℕ) (at pos : ℕ) → TreeThere b at pos → (at + 4 ≤ stop_at b at) × (stop_at b at ≤ length b)
 tree_within b at pos t =
-    let e = tree_ends b t.tree at t.end t.stands in
+    let e = tree_ends b 2 t.tree at t.end t.stands in
     (omega (arith, e.is, e.after), omega (arith, e.is, e.inside))
 
 rows_ahead : (b : List ℕ) (first stop start : ℕ) (out₀ : List ℕ) (at pos : ℕ) (out : List ℕ) (q : ℕ) (o : List ℕ) (ts : Trees)
@@ -99,7 +97,7 @@ rows_one b first stop start out₀ at pos out n q o r g h e p =
     let d = row_tree b first stop start out₀ at pos out r g h in
     let w = p d.tree d.end d.stands in
     let s = tree_bytes_lem b d.tree at d.end d.stands in
-    let x = tree_ends b d.tree at d.end d.stands in
+    let x = tree_ends b 2 d.tree at d.end d.stands in
     rw e
     (record {
       from = omega (arith, g.from, x.is, x.after);
@@ -116,21 +114,21 @@ rows_end b first stop start out₀ at pos out g h ts s = go a.rest a.stands a.pl
     a : Ahead b first stop start out₀ ts at pos out
     a = g.ahead ts s
 
-    go : (us : Trees) → Row b us at stop → pos + length (row_bytes b us) ≡ start + length (row_bytes b ts)
+    go : (us : Trees) → Row b 2 us at stop → pos + length (row_bytes b us) ≡ start + length (row_bytes b ts)
         → sets out pos (row_bytes b us) ≡ sets out₀ start (row_bytes b ts) → Puts (row_bytes b ts) start out₀ pos out
     go nil w p o = record { place = omega arith; output = o }
     go (t ▸ us) w p o =
-        let e = tree_ends b t at (stop_at b at) w.0 in
-        let l = row_order b us (stop_at b at) stop w.1 in
+        let e = tree_ends b 2 t at (stop_at b at) w.0 in
+        let l = row_order b 2 us (stop_at b at) stop w.1 in
         absurd (omega (arith, e.after))
 
 -- ---- a record, and the children in it
 pub tree_head : (b : List ℕ) (at pos : ℕ) → TreeThere b at pos → ¬ (be32 b at ≡ 0)
-    → Whole b at × ((ts : Trees) × Row b ts (head_at b at).first (stop_at b at))
+    → Whole b 2 at × ((ts : Trees) × Row b 2 ts (head_at b at).first (stop_at b at))
 unfolding Stands
 tree_head b at pos there z = go there.tree there.stands
   where
-    go : (t : Tree) → Stands b t at there.end → Whole b at × ((ts : Trees) × Row b ts (head_at b at).first (stop_at b at))
+    go : (t : Tree) → Stands b 2 t at there.end → Whole b 2 at × ((ts : Trees) × Row b 2 ts (head_at b at).first (stop_at b at))
     go absent s = absurd (z s.empty)
     go (node h ts) s = (s.0.whole, (ts, s.1))
 
@@ -149,7 +147,7 @@ pub row_there : (b : List ℕ) (at pos n f inner : ℕ) (o u : List ℕ) → Tre
 row_there b at pos n f inner o u t z m e p =
     let h = tree_head b at pos t z in
     let x = payload_bytes b at h.0 in
-    let y = first_behind b at h.0 in
+    let y = first_behind b 2 at h.0 in
     rw (m, e)
     (record {
       trees = h.1.0;
@@ -162,14 +160,14 @@ row_there b at pos n f inner o u t z m e p =
 pub row_last : (b : List ℕ) (at stop pos r : ℕ) (out o : List ℕ) → RowThere b at stop pos → PutsRow b at stop pos out r o → r ≤ 2 * stop
 row_last b at stop pos r out o t p =
     let s = row_bytes_lem b t.trees at stop t.stands in
-    let h = row_order b t.trees at stop t.stands in
+    let h = row_order b 2 t.trees at stop t.stands in
     let w = p t.trees t.stands in
     omega (arith, w.place, t.below)
 
 pub row_at : (b : List ℕ) (at n f pos r : ℕ) (out o : List ℕ) → n ≡ be32 b at → f ≡ (head_at b at).first → PutsRow b f (at + 4 + n) pos out r o
     → PutsRow b (head_at b at).first (stop_at b at) pos out r o
 row_at b at n f pos r out o m e p ts s =
-    p ts (subst (λ (x : ℕ). Row b ts f x) (ap (λ (x : ℕ). at + 4 + x) (sym m)) (subst (λ (x : ℕ). Row b ts x (stop_at b at)) (sym e) s))
+    p ts (subst (λ (x : ℕ). Row b 2 ts f x) (ap (λ (x : ℕ). at + 4 + x) (sym m)) (subst (λ (x : ℕ). Row b 2 ts x (stop_at b at)) (sym e) s))
 
 -- ---- the loop over comments
 abbrev pub pairs_bytes : List ℕ → ℕ → ℕ → List ℕ
@@ -197,7 +195,7 @@ pair_bytes : (b : List ℕ) (n at : ℕ) → pairs_bytes b (suc n) at ≡ (1 ∷
 unfolding pairs_at
 pair_bytes b n at = refl
 
-pub pairs_one : (b : List ℕ) (count : ℕ) (out₀ : List ℕ) (i at pos : ℕ) (out o₁ o₂ : List ℕ) → Small b → 7 + 8 * count ≤ length b
+pub pairs_one : (b : List ℕ) (count : ℕ) (out₀ : List ℕ) (i at pos : ℕ) (out o₁ o₂ : List ℕ) → Bytes b → 7 + 8 * count ≤ length b
     → Pairs b count out₀ i at pos out → i < count → o₁ ≡ sets out pos (1 ∷ []) → o₂ ≡ sets o₁ (pos + 1) (part at (at + 8) b)
     → Pairs b count out₀ (i + 1) (at + 8) (pos + 9) o₂
 pairs_one b count out₀ i at pos out o₁ o₂ small fits g h e₁ e₂ =
@@ -269,127 +267,32 @@ unfolding pairs_at
 pairs_long b zero at = refl
 pairs_long b (suc n) at = let e = pairs_long b n (at + 8) in omega arith
 
--- ---- what is accepted stands
-module _ (s b : List ℕ) where
-  record Child (t : Tree) (at q stop : ℕ) : Type 0 where
-    pub stands : Stands b t at q
-    pub within : q ≤ stop
-
-  child_stands : (left : ℕ)
-      → ((p at end : ℕ) (t : Tree) (q : ℕ) → end ≤ length b → record_at s b 2 left p at end ≡ got t q → Child t at q end)
-      → (p at stop : ℕ) (t : Tree) (q : ℕ) → stop ≤ length b → child_at s b 2 left p at stop ≡ got t q → Child t at q stop
-  unfolding Stands
-  child_stands left one p at stop t q h e = go (skips b p at stop) refl e
-    where
-      go : (u : Bool) → skips b p at stop ≡ u → cond u (got absent (at + 4)) (record_at s b 2 left (bare p) at stop) ≡ got t q → Child t at q stop
-      go true k e =
-          let w = skips_within b p at stop k in
-          let same : at + 4 ≡ q = cc in
-          let is : absent ≡ t = cc in
-          let gap : Stands b absent at q = record { empty = w.1; inside = omega (arith, w.0); ends = omega (arith, w.1) } in
-          record { stands = subst (λ (x : Tree). Stands b x at q) is gap; within = omega (arith, w.0) }
-      go false k e = one (bare p) at stop t q h e
-
-  row_stands : (left : ℕ) → ((p at end : ℕ) (t : Tree) (q : ℕ) → end ≤ length b → record_at s b 2 left p at end ≡ got t q → Child t at q end)
-      → (n row at stop : ℕ) (ts : Trees) (e : ℕ) → at ≤ stop → stop ≤ length b → children_at (child_at s b 2 left) n row at stop ≡ got ts e
-      → Row b ts at stop
-  unfolding children_at Row
-  row_stands left one zero row at stop ts e h k r = never r
-  row_stands left one (suc n) row at stop ts e h k r =
-      go (λ at us x. row_stands left one n (after row) at stop us x) (ltb at stop) refl r
-    where
-      go : ((at : ℕ) (us : Trees) (x : ℕ) → at ≤ stop → stop ≤ length b
-          → children_at (child_at s b 2 left) n (after row) at stop ≡ got us x → Row b us at stop)
-          → (u : Bool) → ltb at stop ≡ u
-          → cond u
-          (cond (eqb row 0) (bad 4 at)
-          (bind (child_at s b 2 left (place row) at stop)
-          (λ t next. bind (children_at (child_at s b 2 left) n (after row) next stop) (λ us end. got (t ▸ us) end))))
-          (cond (complete row) (got nil stop) (bad 4 at))
-          ≡ got ts e
-          → Row b ts at stop
-      go later true l r =
-          let c = stayed (eqb row 0) _ 4 at ts e r in
-          let x = bind_got (child_at s b 2 left (place row) at stop) _ ts e c.1 in
-          let y = bind_got (children_at (child_at s b 2 left) n (after row) x.1 stop) _ ts e x.3 in
-          let kid = child_stands left one (place row) at stop x.0 x.1 k x.2 in
-          let ends = tree_ends b x.0 at x.1 kid.stands in
-          let more = later x.1 y.0 y.1 kid.within k y.2 in
-          let is : x.0 ▸ y.0 ≡ ts = cc y.3 in
-          let both : Row b (x.0 ▸ y.0) at stop =
-          (subst (λ (m : ℕ). Stands b x.0 at m) ends.is kid.stands, subst (λ (m : ℕ). Row b y.0 m stop) ends.is more) in
-          subst (λ (x : Trees). Row b x at stop) is both
-      go later false l r =
-          let c = passed (complete row) _ 4 at ts e r in
-          let is : nil ≡ ts = cc c.1 in
-          let none : Row b nil at stop = omega (arith, ltb-false at stop l) in
-          subst (λ (x : Trees). Row b x at stop) is none
-
-  record_stands : (left p at end : ℕ) (t : Tree) (q : ℕ) → end ≤ length b → record_at s b 2 left p at end ≡ got t q → Child t at q end
-  unfolding Stands
-  record_stands zero p at end t q h e = absurd (none_deep s b 2 p at end t q e)
-  record_stands (suc left) p at end t q h e =
-      let i = inside s b 2 left p at end t q e in
-      let r = i.held.right in
-      let whole : Whole b at =
-      record {
-        long = r.long;
-        inside = omega (arith, r.within);
-        payload = opened_order i.held;
-        width = λ k. omega (arith, (text_payload b 2 p (at + 13) (stop_at b at) (rw k at r.payload)).0);
-      } in
-      let row = row_stands left (record_stands left) (suc (length b)) (row_under_of p (kind_at b at)) (head_at b at).first (stop_at b at) i.trees (stop_at b at)
-      (opened_order i.held) (omega (arith, r.within)) i.kept in
-      let node-stands : Stands b (node (head_at b at) i.trees) at q = (record { is = refl; whole = whole; ends = i.stop }, row) in
-      record { stands = subst (λ (x : Tree). Stands b x at q) (sym i.is) node-stands; within = omega (arith, i.stop, r.within) }
-
-  pub record There (i : Image) : Type 0 where
-    pub stands : Stands b i.tree i.at (length b)
-    pub count : i.comments ≡ be16 b 5
-    pub few : i.comments ≤ 8192
-    pub room : 7 + 8 * i.comments ≤ length b
-    pub place : i.at ≡ 7 + 8 * i.comments
-    pub short : length b ≤ 1048581
-
-  pub there : (i : Image) (end : ℕ) → read_all s b ≡ got i end → There i
-  unfolding read_all source_fits tree_at
-  there i end h =
-      let a = input s b (document_of i) (record { answer = ap outcome h }) in
-      let r = a.root in
-      let same : read_all s b ≡ read_image false s b = rw (le-leb (length s) 65536 a.short, a.well) in
-      let w : got (record { comments = i.comments; tree = r.tree; at = i.at }) (length b) ≡ got i end = sym r.whole ∙ sym same ∙ h in
-      let is : record { comments = i.comments; tree = r.tree; at = i.at } ≡ i = cc in
-      let tree : r.tree ≡ i.tree = ap (λ (x : Image). x.tree) is in
-      let st = (record_stands 64 1 i.at (length b) r.tree (length b) (omega arith) r.reads).stands in
-      record {
-        stands = rw tree at st;
-        count = r.count;
-        few = omega (arith, r.count, r.list.few);
-        room = omega (arith, r.count, r.list.within);
-        place = r.place;
-        short = omega (arith, r.head.size, r.head.short);
-      }
-
 -- ---- the whole
+-- an image of version 1, whose texts have two bytes of width
+there_two : (s b : List ℕ) (i : Image) (end : ℕ) → read_version 1 false s b ≡ got i end → There (eqb 1) b i × Stands b 2 i.tree i.at (length b)
+there_two s b i end h =
+    let t = there (eqb 1) false s b i end h in
+    (t, subst (λ (v : ℕ). Stands b v i.tree i.at (length b)) (two_bytes b (sym (eqb-true 1 (version b) t.may_be))) t.stands)
+
 pub image_puts : (b : List ℕ) (n at pos r : ℕ) (out o₁ o₂ : List ℕ) → ImageThere b n at → Puts (pairs_bytes b n 7) 0 out pos o₁
     → PutsTree b at pos o₁ r o₂ → PutsImage b out r o₂
 unfolding comments_of
 image_puts b n at pos r out o₁ o₂ a p q s i end h =
-    let t = there s b i end h in
-    let u = there a.source b a.image a.end a.reads in
+    let (t, two) = there_two s b i end h in
+    let u = (there_two a.source b a.image a.end a.reads).0 in
     let n₁ : be16 b 5 ≡ n = sym u.count ∙ a.count in
     let place : i.at ≡ at = omega (arith, t.place, u.place, t.count, u.count, a.place) in
-    let all = puts_join p (q i.tree (length b) (rw place at t.stands)) in
+    let all = puts_join p (q i.tree (length b) (rw place at two)) in
     let is : pairs_bytes b n 7 ++ tree_bytes b i.tree ≡ steps_of b i =
     ap (λ (k : ℕ). pairs_bytes b k 7 ++ tree_bytes b i.tree) (sym n₁)
     ∙ sym (list_append (map (λ (x : Span). comment_step x.start x.end) (pairs_at b (be16 b 5) 7)) (tree_steps (plain b i.tree))) in
     rw is at all
 
 -- ---- the answer
-pub image_there : (s b : List ℕ) (d : Document) → accepted d ≡ outcome (read_all s b) → ImageThere b d.comments d.tree
-image_there s b d h = go (read_all s b) refl h
+pub image_there : (s b : List ℕ) (d : Document) → accepted d ≡ outcome (read_version 1 false s b) → ImageThere b d.comments d.tree
+image_there s b d h = go (read_version 1 false s b) refl h
   where
-    go : (r : Read Image) → read_all s b ≡ r → accepted d ≡ outcome r → ImageThere b d.comments d.tree
+    go : (r : Read Image) → read_version 1 false s b ≡ r → accepted d ≡ outcome r → ImageThere b d.comments d.tree
     go (got i end) e h =
         let same : document_of i ≡ d = cc in
         record {
@@ -404,38 +307,38 @@ image_there s b d h = go (read_all s b) refl h
 
 pub comments_there : (b : List ℕ) (n at : ℕ) → ImageThere b n at → (7 + 8 * n ≤ length b) × (n ≤ 8192)
 comments_there b n at a =
-    let t = there a.source b a.image a.end a.reads in
+    let t = (there_two a.source b a.image a.end a.reads).0 in
     (omega (arith, t.room, a.count), omega (arith, t.few, a.count))
 
 pub tree_there : (b : List ℕ) (n at pos : ℕ) (out o : List ℕ) → ImageThere b n at → Puts (pairs_bytes b n 7) 0 out pos o → TreeThere b at pos
 tree_there b n at pos out o a p =
-    let t = there a.source b a.image a.end a.reads in
+    let (t, two) = there_two a.source b a.image a.end a.reads in
     record {
       tree = a.image.tree;
       end = length b;
-      stands = rw a.place at t.stands;
+      stands = rw a.place at two;
       below = omega (arith, p.place, pairs_long b n 7, t.place, a.place, a.count);
       short = t.short;
     }
 
 module _ (s b out : List ℕ) where
-  pub lists_refused : (x : Refusal) → refused x ≡ outcome (read_all s b)
+  pub lists_refused : (x : Refusal) → refused x ≡ outcome (read_version 1 false s b)
       → (refused x ≡ steps_of_answer s b (length out)) × (out ≡ steps_of_output s b out)
-  lists_refused x h = go (read_all s b) refl h
+  lists_refused x h = go (read_version 1 false s b) refl h
     where
-      go : (r : Read Image) → read_all s b ≡ r → refused x ≡ outcome r
+      go : (r : Read Image) → read_version 1 false s b ≡ r → refused x ≡ outcome r
           → (refused x ≡ steps_of_answer s b (length out)) × (out ≡ steps_of_output s b out)
       go (got i end) e h = cc
       go (bad m q) e h =
           let same : x ≡ record { number = m; place = q } = cc in
           (rw e (ap refused same), rw e)
 
-  module _ (d : Document) (h : accepted d ≡ outcome (read_all s b)) (bytes : ℕ) (u v : List ℕ) (p : PutsImage b u bytes v) where
+  module _ (d : Document) (h : accepted d ≡ outcome (read_version 1 false s b)) (bytes : ℕ) (u v : List ℕ) (p : PutsImage b u bytes v) where
     pub lists_long : length out < bytes
         → (refused (record { number = 17; place = bytes }) ≡ steps_of_answer s b (length out)) × (out ≡ steps_of_output s b out)
-    lists_long k = go (read_all s b) refl h
+    lists_long k = go (read_version 1 false s b) refl h
       where
-        go : (r : Read Image) → read_all s b ≡ r → accepted d ≡ outcome r
+        go : (r : Read Image) → read_version 1 false s b ≡ r → accepted d ≡ outcome r
             → (refused (record { number = 17; place = bytes }) ≡ steps_of_answer s b (length out)) × (out ≡ steps_of_output s b out)
         go (bad m q) e h = let z : ◌≡◌ {A = ℕ} 0 1 = cc in absurd (omega arith)
         go (got i end) e h =
@@ -444,9 +347,9 @@ module _ (s b out : List ℕ) where
 
     pub lists_whole : (r : ℕ) (o : List ℕ) → bytes ≤ length out → PutsImage b out r o
         → (accepted bytes ≡ steps_of_answer s b (length out)) × (o ≡ steps_of_output s b out)
-    lists_whole r o k q = go (read_all s b) refl h
+    lists_whole r o k q = go (read_version 1 false s b) refl h
       where
-        go : (x : Read Image) → read_all s b ≡ x → accepted d ≡ outcome x
+        go : (x : Read Image) → read_version 1 false s b ≡ x → accepted d ≡ outcome x
             → (accepted bytes ≡ steps_of_answer s b (length out)) × (o ≡ steps_of_output s b out)
         go (bad m y) e h = let z : ◌≡◌ {A = ℕ} 0 1 = cc in absurd (omega arith)
         go (got i end) e h =

@@ -19,11 +19,10 @@ use Rattle.image.specs.Bytes.{be16, be32, part}
 use Rattle.image.specs.Kinds.{TEXT}
 use Rattle.image.specs.Grammar.{is_optional, bare, place, after, complete, row_under_of, has_byte}
 use Rattle.image.specs.Read.{Read, got, bad, bind}
-use Rattle.image.specs.Write.{Plain, Plains, without, plainly, done, ◌next◌, bytes4, written, writtens}
-use Rattle.image.proofs.Exact.{Small, part_length}
-use Rattle.steps.specs.Steps.{bytes2}
+use Rattle.image.specs.Write.{Plain, Plains, without, plainly, done, ◌next◌, bytes4, written, writtens, Bytes, bytes2}
+use Rattle.image.proofs.Exact.{part_length}
 use Rattle.steps.specs.Writer.{step_from, text_by, byte_by, Opened, opened_from, payload_from, children_from, record_from}
-use Rattle.steps.proofs.Took.{took_byte, took_two, took_four, took_join, took_is}
+use Rattle.tree.proofs.Took.{took_byte, took_two, took_four, took_join, took_is}
 use Rattle.writer.specs.Steps.{stands, child_from}
 use Rattle.writer.specs.Put.{held, long, closed, fault, up_to, put_by, child_by, put_of}
 use Rattle.writer.specs.declared.output.Output.{Output}
@@ -176,7 +175,7 @@ module _ (one : ℕ → ℕ → Read Plain) (l : List ℕ) (n row at pos : ℕ) 
           })
 
 -- ---- a payload
-module _ (l : List ℕ) (at pos : ℕ) (out : List ℕ) (small : Small l) where
+module _ (l : List ℕ) (at pos : ℕ) (out : List ℕ) (small : Bytes l) where
   pub text_held : (n : ℕ) (o₁ o₂ : List ℕ) → n ≡ be32 l (at + 3) → stands l at 3 (7 + be32 l (at + 3)) ≡ true
       → well_formed (part (at + 7) (at + 7 + n) l) ≡ true → o₁ ≡ sets out pos (part (at + 1) (at + 3) l)
       → o₂ ≡ sets o₁ (pos + 2) (part (at + 7) (at + 7 + n) l)
@@ -226,7 +225,7 @@ module _ (l : List ℕ) (p kind at : ℕ) where
 
 -- ---- a record
 -- what stands between its length and its payload is what stands in the list
-head_part : (l : List ℕ) (at : ℕ) → Small l → at + 10 ≤ length l
+head_part : (l : List ℕ) (at : ℕ) → Bytes l → at + 10 ≤ length l
     → part (at + 1) (at + 10) l ≡ (get_or l (at + 1) 0 ∷ []) ++ bytes4 (be32 l (at + 2)) ++ bytes4 (be32 l (at + 6))
 head_part l at small h =
     let far : at + 1 + 1 ≡ at + 2 = omega arith in
@@ -270,7 +269,7 @@ module _ (l : List ℕ) (left p at kind : ℕ) (more : ¬ (left ≡ 0)) (is : ki
       go zero z f = absurd (z refl)
       go (suc d) z f = rw (same_kind, e, ← r, rw sub-one at f)
 
-  module _ (pos : ℕ) (out : List ℕ) (small : Small l) (fits : at + 10 ≤ length l) where
+  module _ (pos : ℕ) (out : List ℕ) (small : Bytes l) (fits : at + 10 ≤ length l) where
     pub record_held : (first row inner end stop : ℕ) (o₀ o₁ o₂ o₃ : List ℕ)
         → o₀ ≡ sets out (pos + 4) (part (at + 1) (at + 10) l)
         → Held (λ (x : List ℕ). x) (pos + 13) o₀ (payload_from l p kind (at + 10)) first inner o₁

@@ -15,42 +15,19 @@ use Rattle.image.specs.Bytes.{be16, be32, part}
 use Rattle.image.specs.Kinds.{TEXT}
 use Rattle.image.specs.Grammar.{has_byte, first_child}
 use Rattle.image.specs.Read.{head_at, stop_at, kind_at, Tree, Trees, absent, node, nil, ◌▸◌}
-use Rattle.image.specs.Write.{bytes4, plain, plains}
-use Rattle.image.proofs.Exact.{Small, part_length}
-use Rattle.image.proofs.Shapes.{first_after}
-use Rattle.steps.specs.Steps.{list_bytes, payload_steps, tree_steps, child_steps, close_step, bytes2}
-use Rattle.steps.proofs.Fits.{text_steps, byte_steps, no_steps}
+use Rattle.image.specs.Write.{bytes4, plain, plains, Bytes, bytes2}
+use Rattle.image.proofs.Exact.{part_length}
+use Rattle.steps.specs.Steps.{list_bytes, payload_steps, tree_steps, child_steps, close_step}
+use Rattle.steps.proofs.Payloads.{text_steps, byte_steps, no_steps}
 use Rattle.steps.proofs.Taken.{list_append}
-use Rattle.steps.proofs.Took.{took_byte, took_two, took_four, took_part, took_join, took_is}
-use Rattle.writer.specs.Stands.{Whole, Stands, Row, Puts, PutsTree, PutsRow, tree_bytes, row_bytes}
+use Rattle.tree.proofs.Took.{took_byte, took_two, took_four, took_part, took_join, took_is}
+use Rattle.writer.specs.Stands.{Puts, PutsTree, PutsRow, tree_bytes, row_bytes}
+use Rattle.image.specs.Standing.{Whole, Stands, Row}
+use Rattle.image.proofs.Standing.{row_order, first_behind, tree_ends}
 use Rattle.writer.proofs.Stores.{sets_behind}
 
--- ---- where it ends
-pub record Ends (b : List ℕ) (at end : ℕ) : Type 0 where
-  pub is : end ≡ stop_at b at
-  pub after : at + 4 ≤ end
-  pub inside : end ≤ length b
-
-pub tree_ends : (b : List ℕ) (t : Tree) (at end : ℕ) → Stands b t at end → Ends b at end
-unfolding Stands
-tree_ends b absent at end s = record { is = s.ends; after = omega (arith, s.ends, s.empty); inside = omega (arith, s.ends, s.empty, s.inside) }
-tree_ends b (node h ts) at end s =
-    record { is = s.0.ends; after = omega (arith, s.0.ends); inside = omega (arith, s.0.ends, s.0.whole.inside) }
-
-pub row_order : (b : List ℕ) (ts : Trees) (at stop : ℕ) → Row b ts at stop → at ≤ stop
-unfolding Row
-row_order b nil at stop s = omega arith
-row_order b (t ▸ ts) at stop s =
-    let e = tree_ends b t at (stop_at b at) s.0 in
-    let l = row_order b ts (stop_at b at) stop s.1 in
-    omega (arith, e.after)
-
--- the payload ends behind the head
-pub first_behind : (b : List ℕ) (at : ℕ) → Whole b at → at + 13 ≤ (head_at b at).first
-first_behind b at w = first_after (kind_at b at) (at + 13) (stop_at b at) (omega (arith, w.long))
-
 -- ---- how many bytes its steps have
-pub payload_bytes : (b : List ℕ) (at : ℕ) → Whole b at
+pub payload_bytes : (b : List ℕ) (at : ℕ) → Whole b 2 at
     → length (list_bytes (payload_steps (kind_at b at) (part (at + 13) (head_at b at).first b))) ≤ (head_at b at).first - (at + 13) + 5
 unfolding first_child
 payload_bytes b at w = go (kind_at b at) refl
@@ -79,27 +56,27 @@ payload_bytes b at w = go (kind_at b at) refl
 mutual
   unfolding Stands plain tree_steps
 
-  pub tree_bytes_lem : (b : List ℕ) (t : Tree) (at end : ℕ) → Stands b t at end → length (tree_bytes b t) ≤ 2 * (end - at)
+  pub tree_bytes_lem : (b : List ℕ) (t : Tree) (at end : ℕ) → Stands b 2 t at end → length (tree_bytes b t) ≤ 2 * (end - at)
   tree_bytes_lem b absent at end s = omega (arith, s.ends)
   tree_bytes_lem b (node h ts) at end s =
       let w = s.0.whole in
       let p = payload_bytes b at w in
-      let f = first_behind b at w in
+      let f = first_behind b 2 at w in
       let r = row_bytes_lem b ts (head_at b at).first (stop_at b at) s.1 in
-      let o = row_order b ts (head_at b at).first (stop_at b at) s.1 in
+      let o = row_order b 2 ts (head_at b at).first (stop_at b at) s.1 in
       let x = part (at + 13) (head_at b at).first b in
       let m : length (list_bytes (payload_steps (kind_at b at) x ++ (child_steps (plains b ts) ++ (close_step ∷ []))))
       ≡ length (list_bytes (payload_steps (kind_at b at) x)) + (length (row_bytes b ts) + 1) =
       simp (list_append, length-append) in
       rw s.0.is (omega (arith, s.0.ends))
 
-  pub row_bytes_lem : (b : List ℕ) (ts : Trees) (at stop : ℕ) → Row b ts at stop → length (row_bytes b ts) ≤ 2 * (stop - at)
+  pub row_bytes_lem : (b : List ℕ) (ts : Trees) (at stop : ℕ) → Row b 2 ts at stop → length (row_bytes b ts) ≤ 2 * (stop - at)
   row_bytes_lem b nil at stop s = omega arith
   row_bytes_lem b (t ▸ ts) at stop s =
       let a = tree_bytes_lem b t at (stop_at b at) s.0 in
-      let e = tree_ends b t at (stop_at b at) s.0 in
+      let e = tree_ends b 2 t at (stop_at b at) s.0 in
       let r = row_bytes_lem b ts (stop_at b at) stop s.1 in
-      let o = row_order b ts (stop_at b at) stop s.1 in
+      let o = row_order b 2 ts (stop_at b at) stop s.1 in
       rw (list_append (tree_steps (plain b t)) (child_steps (plains b ts)), length-append (tree_bytes b t) (row_bytes b ts)) (omega (arith, e.after))
 
 -- ---- what is put
@@ -123,7 +100,7 @@ puts_is {xs} {ys} {pos} {end} {out} {o} e p =
     record { place = p.place ∙ ap (λ (z : List ℕ). pos + length z) e; output = p.output ∙ ap (sets out pos) e }
 
 -- a payload
-module _ (b : List ℕ) (at : ℕ) (small : Small b) (w : Whole b at) where
+module _ (b : List ℕ) (at : ℕ) (small : Bytes b) (w : Whole b 2 at) where
   abbrev payload : List ℕ
   payload = list_bytes (payload_steps (kind_at b at) (part (at + 13) (head_at b at).first b))
 
@@ -184,7 +161,7 @@ module _ (b : List ℕ) (at : ℕ) (small : Small b) (w : Whole b at) where
       puts_is (sym is) (record { place = omega arith; output = refl })
 
 -- a payload byte lies in the image
-pub payload_byte_inside : (b : List ℕ) (at : ℕ) → Whole b at → ¬ (kind_at b at ≡ TEXT) → has_byte (kind_at b at) ≡ true → at + 13 < length b
+pub payload_byte_inside : (b : List ℕ) (at : ℕ) → Whole b 2 at → ¬ (kind_at b at ≡ TEXT) → has_byte (kind_at b at) ≡ true → at + 13 < length b
 unfolding first_child
 payload_byte_inside b at w k h =
     let first : (head_at b at).first ≡ at + 13 + 1 = rw (ne_eqb (kind_at b at) TEXT k, h) in
@@ -197,14 +174,14 @@ puts_absent b at pos out o z e absent end s = puts_byte 5 pos out o e
 puts_absent b at pos out o z e (node h ts) end s = absurd (omega (arith, s.0.whole.long))
 
 -- a record
-pub head_bytes : (b : List ℕ) (at : ℕ) → Small b → at + 13 ≤ length b
+pub head_bytes : (b : List ℕ) (at : ℕ) → Bytes b → at + 13 ≤ length b
     → part (at + 4) (at + 13) b ≡ (kind_at b at ∷ []) ++ bytes4 (be32 b (at + 5)) ++ bytes4 (be32 b (at + 9))
 head_bytes b at small h =
     let far : at + 4 + 1 ≡ at + 5 = omega arith in
     let k = rw far at (took_byte b (at + 4) (omega arith)) in
     took_is (took_join (took_join k (took_four b (at + 5) (at + 9) (omega arith) (omega arith))) (took_four b (at + 9) (at + 13) (omega arith) h)) small
 
-pub puts_record : (b : List ℕ) (at pos inner last : ℕ) (out o₁ o₂ o₃ o₄ o₅ : List ℕ) → Small b → ¬ (be32 b at ≡ 0)
+pub puts_record : (b : List ℕ) (at pos inner last : ℕ) (out o₁ o₂ o₃ o₄ o₅ : List ℕ) → Bytes b → ¬ (be32 b at ≡ 0)
     → o₁ ≡ set out pos 2
     → o₂ ≡ sets o₁ (pos + 1) (part (at + 4) (at + 13) b)
     → Puts (list_bytes (payload_steps (kind_at b at) (part (at + 13) (head_at b at).first b))) (pos + 10) o₂ inner o₃

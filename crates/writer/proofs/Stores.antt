@@ -13,8 +13,7 @@ use borrow.Rule.Slice.PartMut.{put_mid}
 use lib.Seq.{sets, set_comm, set_out, sets-eq, drop-drop, length-sets, length-take-le}
 use Rattle.laws.proofs.Stores.{sets_append}
 use Rattle.std.specs.Int.{w16, w32, to_be_bytes}
-use Rattle.image.specs.Write.{bytes4}
-use Rattle.steps.specs.Steps.{bytes2}
+use Rattle.image.specs.Write.{bytes4, bytes2}
 
 -- a store above the run
 set_above : (vs s : List ℕ) (i j v : ℕ) → j + length vs ≤ i → sets (set s i v) j vs ≡ set (sets s j vs) i v

@@ -4,9 +4,9 @@ use Rattle.std.proofs.lemmas.List.Edits.{sets}
 use Rattle.image.specs.Kinds.{TREE}
 use Rattle.image.specs.Limits.{MAX_COMMENTS, MAX_RECORDS_DEEP}
 use Rattle.image.specs.Read.{got}
-use Rattle.image.specs.Write.{Plain, bytes4, written}
+use Rattle.image.specs.Write.{Plain, bytes4, written, bytes2}
 use Rattle.ast.specs.Syntax.{Span}
-use Rattle.steps.specs.Steps.{bytes2, pair_bytes}
+use Rattle.tree.specs.Contents.{pair_bytes}
 use Rattle.steps.specs.Writer.{comments_from, record_from}
 
 -- the tree, whose steps start at `at`

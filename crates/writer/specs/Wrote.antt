@@ -5,7 +5,7 @@ use Rattle.refusals.specs.Reasons.{answer_of}
 use Rattle.refusals.specs.declared.Refused.{Refused}
 use Rattle.image.specs.Limits.{MAX_BODY}
 use Rattle.image.specs.Read.{Read, got, bad}
-use Rattle.steps.specs.Steps.{Contents, image_of}
+use Rattle.tree.specs.Contents.{Contents, image_of}
 use Rattle.steps.specs.Writer.{contents_from, writer_answer, writer_output}
 use Rattle.steps.specs.OfImage.{steps_of_answer, steps_of_output}
 use Rattle.writer.specs.declared.whole.Measured.{Measured}
@@ -23,7 +23,7 @@ abbrev pub measures : ℕ → ℕ → Answer Measured
 measures at bytes = accepted (record { tree = at; bytes = bytes })
 
 abbrev pub measured : Read Contents → Answer Measured
-measured (got c end) = measures (9 * length c.comments) (length (image_of c))
+measured (got c end) = measures (9 * length c.comments) (length (image_of 1 c))
 measured (bad n p) = refused (record { number = n; place = p })
 
 -- a list was measured, and its image has no more bytes than it may and than the output has

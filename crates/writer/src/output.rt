@@ -1,8 +1,7 @@
 // Bytes put into an output.
 ghost use Rattle.std.specs.Prelude.{◌≡◌, [], ◌∷◌, ◌+◌, ◌-◌, ◌%◌, ◌<◌, ◌^◌, length, set};
 ghost use Rattle.std.proofs.lemmas.List.Edits.{sets};
-ghost use Rattle.image.specs.Write.{bytes4};
-ghost use Rattle.steps.specs.Steps.{bytes2};
+ghost use Rattle.image.specs.Write.{bytes4, bytes2};
 ghost use Rattle.writer.specs.Appends.{Appends, Sets};
 
 // Sets the byte at a place.

@@ -2,7 +2,7 @@
 ghost use Rattle.std.specs.Prelude.{◌≡◌, ◌≤◌};
 ghost use Rattle.image.specs.Limits.{MAX_COMMENTS};
 ghost use Rattle.image.specs.Read.{bind};
-ghost use Rattle.steps.specs.Steps.{pair_bytes};
+ghost use Rattle.tree.specs.Contents.{pair_bytes};
 ghost use Rattle.steps.specs.Writer.{step_from, pair_by, comments_from};
 ghost use Rattle.writer.specs.Put.{Same, put_of, put_by};
 ghost use Rattle.writer.specs.Steps.{taken};

@@ -4,7 +4,7 @@ ghost use Rattle.image.specs.KindNumbers.{kind_of};
 ghost use Rattle.image.specs.Places.{due_number};
 ghost use Rattle.writer.specs.Codes.{code_of};
 ghost use Rattle.writer.specs.Steps.{stands, taken};
-ghost use Rattle.steps.specs.Exact.{Bytes};
+ghost use Rattle.image.specs.Write.{Bytes};
 ghost use Rattle.steps.specs.Writer.{opened_from};
 
 use image::bytes::num32;

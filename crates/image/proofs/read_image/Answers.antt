@@ -13,7 +13,7 @@ use Rattle.image.proofs.read_image.Goals as goal
 pub returns-in_err-at : goal.returns-in_err-at
 returns-in_err-at c =
     passed _ _ _ c.from_residual.ensures.1
-    ∙ sym (image_bad _ _ _ _ (sym c.header_fits.ensures ∙ c.if-not-header_fits.false)
+    ∙ sym (image_bad _ _ _ _ _ (sym c.header_fits.ensures ∙ c.if-not-header_fits.false)
     (sym c.read_comments.ensures ∙ ap (answer_of (λ (n : ℕ). n)) c.in_err-at.was))
 
 pub read_tree-requires : goal.read_tree-requires
@@ -24,5 +24,5 @@ read_tree-requires c =
 pub returns : goal.returns
 returns c =
     c.read_tree.ensures
-    ∙ sym (ap outcome (image_next _ _ _ _ (sym c.header_fits.ensures ∙ c.if-not-header_fits.false)
+    ∙ sym (ap outcome (image_next _ _ _ _ _ (sym c.header_fits.ensures ∙ c.if-not-header_fits.false)
     (sym c.read_comments.ensures ∙ ap (answer_of (λ (n : ℕ). n)) c.in_ok-at.was)))

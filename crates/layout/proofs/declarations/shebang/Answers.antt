@@ -21,15 +21,15 @@ returns-then-is_absent c = laid_as (cc) (no_shebang (absent c.is_absent.ensures 
 pub overflow_add-from-2 : goal.overflow_add-from-2
 overflow_add-from-2 c =
     let h = has_ident (present c.is_absent.ensures c.if-is_absent.false) c.requires in
-    omega (arith, c.requires.accepted.small, h.held.head.fits, h.held.starts, h.held.ends)
+    omega (arith, c.requires.accepted.small, h.held.head.fits, h.held.starts, h.held.ends, c.width_bytes.ensures)
 
-pub overflow_add-at : goal.overflow_add-at
-overflow_add-at c =
+pub overflow_add-from : goal.overflow_add-from
+overflow_add-from c =
     let h = has_ident (present c.is_absent.ensures c.if-is_absent.false) c.requires in
     omega (arith, c.requires.accepted.small, h.held.head.fits, h.held.starts, h.held.ends)
 
-pub num16-requires : goal.num16-requires
-num16-requires c =
+pub stored_width-requires : goal.stored_width-requires
+stored_width-requires c =
     let h = has_ident (present c.is_absent.ensures c.if-is_absent.false) c.requires in
     omega (arith, h.held.head.fits, h.held.starts, h.held.ends)
 
@@ -42,9 +42,10 @@ pub overflow_sub-size : goal.overflow_sub-size
 overflow_sub-size c =
     let h = has_ident (present c.is_absent.ensures c.if-is_absent.false) c.requires in
     let t =
-    trim_after c.args.parsed.now.image.now (c.args.at + 15) (stop_at c.args.parsed.now.image.now c.args.at) (omega (arith, h.held.starts, h.held.ends))
+    trim_after c.args.parsed.now.image.now (c.args.at + 13 + c.width_bytes.result) (stop_at c.args.parsed.now.image.now c.args.at)
+    (omega (arith, h.held.starts, h.held.ends, c.width_bytes.ensures))
     in
-    let e : c.trim_end.result ≡ trim_end c.args.parsed.now.image.now (c.args.at + 15) (stop_at c.args.parsed.now.image.now c.args.at) =
+    let e : c.trim_end.result ≡ trim_end c.args.parsed.now.image.now (c.args.at + 13 + c.width_bytes.result) (stop_at c.args.parsed.now.image.now c.args.at) =
     rw (← c.past.ensures) c.trim_end.ensures
     in
     omega (arith, t, e)
@@ -52,18 +53,18 @@ overflow_sub-size c =
 pub overflow_cast-from : goal.overflow_cast-from
 overflow_cast-from c =
     let h = has_ident (present c.is_absent.ensures c.if-is_absent.false) c.requires in
-    omega (arith, c.requires.accepted.small, h.held.head.fits, h.held.starts, h.held.ends)
+    omega (arith, c.requires.accepted.small, h.held.head.fits, h.held.starts, h.held.ends, c.width_bytes.ensures)
 
 pub push-requires : goal.push-requires
 push-requires c =
     let h = has_ident (present c.is_absent.ensures c.if-is_absent.false) c.requires in
-    let u = trim_before c.args.parsed.now.image.now (c.args.at + 15) (stop_at c.args.parsed.now.image.now c.args.at) in
-    let e : c.trim_end.result ≡ trim_end c.args.parsed.now.image.now (c.args.at + 15) (stop_at c.args.parsed.now.image.now c.args.at) =
+    let u = trim_before c.args.parsed.now.image.now (c.args.at + 13 + c.width_bytes.result) (stop_at c.args.parsed.now.image.now c.args.at) in
+    let e : c.trim_end.result ≡ trim_end c.args.parsed.now.image.now (c.args.at + 13 + c.width_bytes.result) (stop_at c.args.parsed.now.image.now c.args.at) =
     rw (← c.past.ensures) c.trim_end.ensures
     in record {
       room = room_first _ (subst (λ (z : Act). Room z c.args.state.now.cursor)
-          (sym (shebang_same h.held c.num16.ensures.same refl (rw (c.trim_end.ensures, c.past.ensures)))) h.room);
-      small = (omega (arith, c.requires.accepted.small, h.held.head.fits, u, e), omega (arith, c.num16.ensures.same, c.num16.ensures.small));
+          (sym (shebang_same h.held c.stored_width.ensures.0 c.width_bytes.ensures refl (rw (c.trim_end.ensures, c.past.ensures)))) h.room);
+      small = (omega (arith, c.requires.accepted.small, h.held.head.fits, u, e), omega (arith, c.stored_width.ensures.0, c.stored_width.ensures.1));
     }
 
 pub push-requires-2 : goal.push-requires-2
@@ -71,12 +72,12 @@ push-requires-2 c =
     record {
       room = let h = has_ident (present c.is_absent.ensures c.if-is_absent.false) c.requires in
           room_next (subst (λ (z : Act). Room z c.args.state.now.cursor)
-          (sym (shebang_same h.held c.num16.ensures.same refl (rw (c.trim_end.ensures, c.past.ensures)))) h.room)
+          (sym (shebang_same h.held c.stored_width.ensures.0 c.width_bytes.ensures refl (rw (c.trim_end.ensures, c.past.ensures)))) h.room)
           (lays c.push.ensures.laid);
       small = tt;
     }
 
 pub returns : goal.returns
 returns c =
-    laid_as (cc) (some_shebang (present c.is_absent.ensures c.if-is_absent.false) c.num16.ensures.same refl
+    laid_as (cc) (some_shebang (present c.is_absent.ensures c.if-is_absent.false) c.stored_width.ensures.0 c.width_bytes.ensures refl
     (rw (c.trim_end.ensures, c.past.ensures)) (lays c.push.ensures.laid) (lays c.push-2.ensures.laid))

@@ -5,7 +5,8 @@ use native.Mathlib.Omega.{arith}
 use lib.ListN.{length}
 use Rattle.image.specs.Bytes.{be32, part}
 use Rattle.image.proofs.Exact.{part_length}
-use Rattle.writer.proofs.Standing.{first_behind, puts_absent, puts_record}
+use Rattle.writer.proofs.Standing.{puts_absent, puts_record}
+use Rattle.image.proofs.Standing.{first_behind}
 use Rattle.writer.proofs.Listed.{rows_none, rows_one, rows_end, row_tree, tree_within, tree_head, tree_room, row_there, row_last, row_at}
 use Rattle.writer.proofs.list.+listing.Goals as goal
 
@@ -72,7 +73,7 @@ list_tree-list_trees-requires t c =
     let r = tree_room c.args.image.now _ _ c.requires no in
     let ten = opened c.args.image.now c.args.at c.args.out.now.pos c.copy.new.self.pos (omega (arith, r))
     (rw c.put-2.ensures.place at c.copy.ensures.place) in (
-      omega (arith, c.decreases, r, c.list_payload-first.ensures.first, first_behind c.args.image.now _ h),
+      omega (arith, c.decreases, r, c.list_payload-first.ensures.first, first_behind c.args.image.now 2 _ h),
       row_there c.args.image.now _ _ _ _ _ c.copy.new.self.bytes.now c.list_payload-first.new.out.bytes.now c.requires
           no c.num32-n.ensures.same c.list_payload-first.ensures.first (rw ten at c.list_payload-first.ensures.put),
     )

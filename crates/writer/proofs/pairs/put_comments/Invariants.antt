@@ -3,7 +3,7 @@ use mathlib.Core.Path.{◌≡◌}
 use Prim.Native.Nat.{◌-◌}
 use lib.ListN.{length}
 use Rattle.image.specs.Limits.{MAX_COMMENTS}
-use Rattle.steps.specs.Steps.{pair_bytes}
+use Rattle.tree.specs.Contents.{pair_bytes}
 use Rattle.steps.specs.Writer.{comments_from}
 use Rattle.writer.specs.Put.{Same, put_by}
 use Rattle.writer.proofs.Commented.{Listing}

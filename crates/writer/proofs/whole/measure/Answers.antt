@@ -6,9 +6,9 @@ use lib.ListN.{length}
 use Rattle.image.specs.Write.{written}
 use Rattle.image.specs.Kinds.{TREE}
 use Rattle.image.specs.Limits.{MAX_COMMENTS, MAX_RECORDS_DEEP}
-use Rattle.steps.specs.Steps.{pair_bytes}
+use Rattle.tree.specs.Contents.{pair_bytes}
 use Rattle.steps.specs.Writer.{comments_from, record_from}
-use Rattle.steps.proofs.Sizes.{pairs_size}
+use Rattle.tree.proofs.WholeFits.{pairs_size}
 use Rattle.writer.specs.Wrote.{measured}
 use Rattle.writer.proofs.Commented.{comments_got}
 use Rattle.refusals.proofs.Passed.{passed}

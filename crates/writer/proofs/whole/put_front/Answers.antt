@@ -5,8 +5,8 @@ use Prim.Native.Nat.{ℕ, ◌-◌, ◌%◌}
 use native.Mathlib.Omega.{arith}
 use lib.Seq.{sets}
 use Rattle.image.specs.Limits.{MAX_COMMENTS}
-use Rattle.image.specs.Write.{bytes4}
-use Rattle.steps.specs.Steps.{bytes2, pair_bytes}
+use Rattle.image.specs.Write.{bytes4, bytes2}
+use Rattle.tree.specs.Contents.{pair_bytes}
 use Rattle.steps.specs.Writer.{comments_from}
 use Rattle.writer.proofs.Imaged.{put_got}
 use Rattle.writer.proofs.whole.put_front.Goals as goal

@@ -3,7 +3,7 @@ use mathlib.Core.Path.{refl}
 use Prim.Native.Nat.{◌+◌, ◌*◌, ◌/◌}
 use native.Mathlib.Omega.{arith}
 use Rattle.image.specs.Write.{written}
-use Rattle.steps.proofs.Sizes.{pairs_size}
+use Rattle.tree.proofs.WholeFits.{pairs_size}
 use Rattle.writer.proofs.Imaged.{parts, lent_part, whole_put}
 use Rattle.writer.proofs.whole.put_image.Goals as goal
 

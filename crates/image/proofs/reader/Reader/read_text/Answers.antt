@@ -13,7 +13,7 @@ pub returns-then-not-text_fits : goal.returns-then-not-text_fits
 unfolding opens
 returns-then-not-text_fits c =
     let r = c.args.self.now in
-    rw c.at.ensures (sym (ap step_of (record_bad r.source.now r.image.now 2 r.left TEXT r.at r.end 4 r.at
+    rw c.at.ensures (sym (ap step_of (record_bad r.source.now r.image.now r.width r.left TEXT r.at r.end 4 r.at
     (simp (sym c.text_fits.ensures ∙ c.if-not-text_fits.true)))))
 
 pub returns-in_err-stop : goal.returns-in_err-stop

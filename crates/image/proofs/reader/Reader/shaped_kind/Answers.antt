@@ -7,5 +7,5 @@ use Rattle.image.proofs.reader.Reader.shaped_kind.Goals as goal
 pub returns : goal.returns
 returns c =
     c.then_some.ensures
-    ∙ paid_kind _ _ _ _ _ _ _ c.num32-n.ensures.same c.if-n-lt9.false c.if-self-n.false (sym c.fits.ensures ∙ c.if-not-fits.false)
+    ∙ paid_kind _ _ _ _ _ _ _ _ c.num32-n.ensures.same c.if-n-lt9.false c.if-self-n.false (sym c.fits.ensures ∙ c.if-not-fits.false)
     c.in_ok-kind.ensures c.payload_fits.ensures

@@ -1,8 +1,12 @@
 -- 9 by the marks that the rows need.
 -- Assumes nothing.
 use mathlib.Core.Path.{refl}
+use native.Mathlib.Omega.{arith}
 use Rattle.render_call.proofs.Early.{needs_within, marks_short}
 use Rattle.render_call.proofs.call.Call.render_checked.Goals as goal
+
+pub overflow_add-margin : goal.overflow_add-margin
+overflow_add-margin c = omega (arith, needs_within _ _ _ _ _ _ c.requires _ refl)
 
 pub rows_need-needs-requires : goal.rows_need-needs-requires
 rows_need-needs-requires c = needs_within _ _ _ _ _ _ c.requires _ refl

@@ -7,8 +7,7 @@ use native.Mathlib.Omega.{arith}
 use lib.ListN.{length, get_or, take, drop, length-append, length-drop}
 use lib.Seq.{drop-drop, drop-append_seam, take-append_seam, get_or-drop}
 use Rattle.image.specs.Bytes.{be16, be32, part}
-use Rattle.image.specs.Write.{bytes4}
-use Rattle.steps.specs.Steps.{bytes2}
+use Rattle.image.specs.Write.{bytes4, bytes2}
 
 pub record Stands (b : List ℕ) (at : ℕ) (y : List ℕ) : Type 0 where
   pub low : at ≤ length b

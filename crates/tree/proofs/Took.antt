@@ -8,10 +8,8 @@ use native.Mathlib.Numerals.{add-one}
 use lib.ListN.{length, get_or, take, drop, length-append, take-append-drop}
 use lib.Seq.{drop-cons, drop-drop, take-append_seam, drop-length}
 use Rattle.image.specs.Bytes.{be16, be32, part}
-use Rattle.image.specs.Write.{bytes4}
+use Rattle.image.specs.Write.{bytes4, bytes2, Bytes}
 use Rattle.image.proofs.Exact.{four, part_length}
-use Rattle.steps.specs.Steps.{bytes2}
-use Rattle.steps.specs.Exact.{Bytes}
 
 -- y was taken between `at` and `end`: so many bytes, and, where the list is one of bytes, the same
 pub record Took (l : List ℕ) (at end : ℕ) (y : List ℕ) : Type 0 where

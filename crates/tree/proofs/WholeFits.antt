@@ -1,7 +1,7 @@
 -- An image that the reader accepts says contents that fit, and is their image.
 -- Assumes nothing.
-use mathlib.Core.Path.{◌≡◌, refl, sym, ap}
-use mathlib.Core.Bool.{false, not}
+use mathlib.Core.Path.{◌≡◌, refl, sym, ap, ◌∙◌}
+use mathlib.Core.Bool.{Bool, true}
 use mathlib.Core.List.{List, [], ◌∷◌}
 use Prim.Native.Nat.{ℕ, zero, suc, ◌+◌, ◌*◌, ◌≤◌, ◌<◌}
 use native.Mathlib.Omega.{arith}
@@ -9,17 +9,17 @@ use lib.ListN.{length}
 use Rattle.text.specs.Utf8.{well_formed}
 use Rattle.image.specs.Bytes.{be16, be32}
 use Rattle.image.specs.Limits.{MAX_BODY, MAX_COMMENTS}
-use Rattle.image.specs.Read.{got, Image, source_fits, read_all, tree_at, document_of, outcome}
-use Rattle.image.specs.Write.{bytes4, written, plain}
-use Rattle.image.proofs.Accepted.{Root, rooted}
+use Rattle.image.specs.Read.{got, Image, version, width_bytes, read_image, read_with, tree_at, document_of, outcome}
+use Rattle.image.specs.Write.{bytes4, written, plain, Bytes}
+use Rattle.image.proofs.Accepted.{Root, input, read_inside}
+use Rattle.image.proofs.Versions.{two_or_none}
 use Rattle.image.proofs.Exact.{tree_exact}
+use Rattle.ast.specs.Syntax.{Span}
 use Rattle.tree.specs.CommentList.{pairs_at, comments_of}
-use Rattle.steps.specs.Steps.{pair_bytes, body_of, image_of, contents_of}
-use Rattle.steps.specs.Exact.{Bytes}
-use Rattle.steps.proofs.Took.{took_all, Took, took_none, took_join, took_part, took_byte, took_four, took_two}
-use Rattle.steps.proofs.Fits.{Listing, no_more, one_more, FitsAll}
-use Rattle.steps.proofs.Views.{stayed}
-use Rattle.steps.proofs.ReadFits.{record_fits}
+use Rattle.tree.specs.Contents.{pair_bytes, body_of, image_of, contents_of}
+use Rattle.tree.proofs.Took.{took_all, Took, took_none, took_join, took_part, took_byte, took_four, took_two}
+use Rattle.tree.proofs.Fits.{Listing, no_more, one_more, FitsAll}
+use Rattle.tree.proofs.ReadFits.{record_fits}
 
 -- ---- comments
 -- those of the image, each not empty
@@ -39,6 +39,11 @@ unfolding pairs_at
 pairs_length b zero at = refl
 pairs_length b (suc n) at = ap suc (pairs_length b n (at + 8))
 
+-- how long they are as they are written
+pub pairs_size : (cs : List Span) → length (pair_bytes cs) ≡ 8 * length cs
+pairs_size [] = refl
+pairs_size (c ∷ cs) = let e = pairs_size cs in omega arith
+
 -- and their bytes
 pairs_took : (b : List ℕ) (n at end : ℕ) → end ≡ at + 8 * n → end ≤ length b → Took b at end (pair_bytes (pairs_at b n at))
 unfolding pairs_at
@@ -49,29 +54,29 @@ pairs_took b (suc n) at end e h =
 
 -- ---- the whole
 -- what an accepted reading was made of
-pub record Read-as (s b : List ℕ) (i : Image) : Type 0 where
-  pub root : Root false s b i.comments i.at
+pub record Read-as (may : ℕ → Bool) (ordered : Bool) (s b : List ℕ) (i : Image) : Type 0 where
+  pub formed : well_formed s ≡ true
+  pub root : Root may ordered s b i.comments i.at
   pub tree : i.tree ≡ root.tree
 
-pub read_as : (s b : List ℕ) (i : Image) (end : ℕ) → read_all s b ≡ got i end → Read-as s b i
-unfolding read_all
-read_as s b i end h =
-    let one = stayed (not (source_fits s)) _ 1 0 i end h in
-    let two = stayed (not (well_formed s)) _ 2 _ i end one.1 in
-    let r = rooted false s b (document_of i) (ap outcome two.1) in
-    let same : i ≡ record { comments = i.comments; tree = r.tree; at = i.at } = cc (two.1, r.whole) in
-    record { root = r; tree = ap (λ (j : Image). j.tree) same }
+pub read_as : (may : ℕ → Bool) (ordered : Bool) (s b : List ℕ) (i : Image) (end : ℕ) → read_with may ordered s b ≡ got i end
+    → Read-as may ordered s b i
+read_as may ordered s b i end h =
+    let a = input may ordered s b (document_of i) (ap outcome h) in
+    let same : read_with may ordered s b ≡ read_image may ordered s b = read_inside may ordered s b a.short a.well in
+    let is : i ≡ record { comments = i.comments; tree = a.root.tree; at = i.at } = cc (sym same ∙ h, a.root.whole) in
+    record { formed = a.well; root = a.root; tree = ap (λ (j : Image). j.tree) is }
 
-module _ (s b : List ℕ) (small : Bytes b) (i : Image) (read : Read-as s b i) where
-  r : Root false s b i.comments i.at
+module _ (may : ℕ → Bool) (ordered : Bool) (s b : List ℕ) (small : Bytes b) (i : Image) (read : Read-as may ordered s b i) where
+  r : Root may ordered s b i.comments i.at
   r = read.root
 
-  pub whole_fits : FitsAll (contents_of b i)
+  pub whole_fits : FitsAll (width_bytes b) (contents_of b i)
   unfolding comments_of tree_at r
   whole_fits =
       record {
         listing = listing_of b (be16 b 5) MAX_COMMENTS 7 r.list.few (λ k h. (r.list.list.each k h).order);
-        tree = rw read.tree (record_fits s b small 64 1 i.at (length b) r.tree (length b) (omega arith) r.reads);
+        tree = rw read.tree (record_fits s b small (width_bytes b) (two_or_none b) 64 1 i.at (length b) r.tree (length b) (omega arith) r.reads);
       }
 
   -- the body's bytes, and the image's
@@ -81,18 +86,18 @@ module _ (s b : List ℕ) (small : Bytes b) (i : Image) (read : Read-as s b i) w
       let n = be16 b 5 in
       let at-is : i.at ≡ 7 + 8 * n = omega (arith, r.place, r.count) in
       let last : Took b i.at (length b) (written (plain b i.tree)) =
-      rw (read.tree, ← tree_exact false s b i.comments i.at small r)
+      rw (read.tree, ← tree_exact may ordered s b i.comments i.at small r)
       (took_part b i.at (length b) (omega (arith, r.list.within)) (omega arith))
       in
       rw (pairs_length b n 7)
       (took_join (took_two b 5 7 refl (omega (arith, r.list.within)))
       (took_join (pairs_took b n 7 i.at at-is (omega (arith, r.list.within))) last))
 
-  pub image_is : image_of (contents_of b i) ≡ b
+  pub image_is : image_of (version b) (contents_of b i) ≡ b
   unfolding r
   image_is =
       let size : be32 b 1 ≡ length (body_of (contents_of b i)) = omega (arith, r.head.size, body_took.ends) in
-      let one : Took b 0 1 (1 ∷ []) = rw r.head.version at (took_byte b 0 (omega (arith, r.head.size))) in
+      let one : Took b 0 1 (version b ∷ []) = took_byte b 0 (omega (arith, r.head.size)) in
       let head : Took b 1 5 (bytes4 (length (body_of (contents_of b i)))) = rw (← size) (took_four b 1 5 refl (omega (arith, r.head.size))) in
       sym (took_all (took_join one (took_join head body_took)) small)
 

@@ -2,7 +2,8 @@
 -- Assumes nothing.
 use mathlib.Core.Path.{◌≡◌, refl, ap, ◌∙◌}
 use mathlib.Core.Bool.{Bool, true, false, cond, ◌&&◌}
-use mathlib.Core.List.{List, ◌++◌}
+use mathlib.Core.List.{List}
+use mathlib.Core.Logic.{◌⊎◌, inl, inr}
 use Prim.Native.Nat.{ℕ, zero, suc, ◌+◌, ◌≤◌}
 use native.Mathlib.Omega.{arith}
 use lib.ListN.{length, get_or}
@@ -14,37 +15,43 @@ use Rattle.image.specs.Bytes.{be16, be32, part}
 use Rattle.image.specs.Kinds.{TEXT}
 use Rattle.image.specs.Grammar.{is_optional, bare, place, after, complete, has_byte, payload_fits, first_child}
 use Rattle.image.specs.Read.{Read, got, bad, bind, kind_at, stop_at, Tree, Trees, absent, nil, ◌▸◌, skips, child_at, record_at, children_at}
-use Rattle.image.specs.Write.{plain, plains}
+use Rattle.image.specs.Write.{plain, plains, Bytes}
 use Rattle.image.proofs.Shapes.{text_payload, byte_payload}
 use Rattle.image.proofs.Inside.{inside, none_deep}
 use Rattle.image.proofs.Exact.{join}
-use Rattle.steps.specs.Exact.{Bytes}
-use Rattle.steps.proofs.Took.{took_is, took_none, took_byte, took_two}
-use Rattle.steps.proofs.Fits.{Pays, text, byte, nothing, Fits, fits, FitsRow, ends, gone, here}
-use Rattle.steps.proofs.Views.{never, bind_got, passed, stayed}
+use Rattle.tree.proofs.Took.{took_is, took_none, took_byte, took_two}
+use Rattle.tree.proofs.Fits.{Front, two, none, Pays, text, byte, nothing, Fits, fits, FitsRow, ends, gone, here}
+use Rattle.image.proofs.Got.{never, bind_got, passed, stayed}
 
 -- ---- the payload
-module _ (b : List ℕ) (small : Bytes b) (p kind at stop : ℕ) (low : at ≤ stop) (far : stop ≤ length b) where
-  text_fits : eqb kind TEXT ≡ true → payload_fits b 2 p kind at stop ≡ true → Pays p kind (part at stop b)
-  text_fits k h =
-      let t = text_payload b 2 p at stop (rw (eqb-true kind TEXT k) at h) in
-      text (be16 b at) (part (at + 2) stop b) k t.1
-      (join b at (at + 2) stop (omega arith) t.0
-      ∙ ap (λ (y : List ℕ). y ++ part (at + 2) stop b) (took_is (took_two b at (at + 2) refl (omega (arith, t.0))) small))
+module _ (b : List ℕ) (small : Bytes b) (v : ℕ) (two-or-none : (v ≡ 2) ⊎ (v ≡ 0)) (p kind at stop : ℕ) (low : at ≤ stop) (far : stop ≤ length b) where
+  front_fits : at + v ≤ length b → Front v (part at (at + v) b)
+  front_fits h = go two-or-none
+    where
+      go : (v ≡ 2) ⊎ (v ≡ 0) → Front v (part at (at + v) b)
+      go (inl e) = two (be16 b at) e (took_is (took_two b at (at + v) (omega arith) h) small)
+      go (inr e) =
+          let same : at + v ≡ at = omega arith in
+          none e (ap (λ (n : ℕ). part at n b) same ∙ took_is (took_none b at (omega arith)) small)
 
-  byte_fits : eqb kind TEXT ≡ false → has_byte kind ≡ true → payload_fits b 2 p kind at stop ≡ true → Pays p kind (part at (at + 1) b)
+  text_fits : eqb kind TEXT ≡ true → payload_fits b v p kind at stop ≡ true → Pays v p kind (part at stop b)
+  text_fits k h =
+      let t = text_payload b v p at stop (rw (eqb-true kind TEXT k) at h) in
+      text (part at (at + v) b) (part (at + v) stop b) (front_fits (omega (arith, t.0))) k t.1 (join b at (at + v) stop (omega arith) t.0)
+
+  byte_fits : eqb kind TEXT ≡ false → has_byte kind ≡ true → payload_fits b v p kind at stop ≡ true → Pays v p kind (part at (at + 1) b)
   byte_fits k y h =
-      let t = byte_payload b 2 p kind at stop k y h in
+      let t = byte_payload b v p kind at stop k y h in
       byte (get_or b at 0) k y t.1 (took_is (took_byte b at (omega (arith, t.0))) small)
 
-  none_fits : eqb kind TEXT ≡ false → has_byte kind ≡ false → Pays p kind (part at at b)
+  none_fits : eqb kind TEXT ≡ false → has_byte kind ≡ false → Pays v p kind (part at at b)
   none_fits k y = nothing k y (took_is (took_none b at (omega arith)) small)
 
-  pub payload_fits_lem : payload_fits b 2 p kind at stop ≡ true → Pays p kind (part at (first_child kind at stop) b)
+  pub payload_fits_lem : payload_fits b v p kind at stop ≡ true → Pays v p kind (part at (first_child kind at stop) b)
   unfolding first_child
   payload_fits_lem h = go (eqb kind TEXT) refl (has_byte kind) refl
     where
-      go : (t : Bool) → eqb kind TEXT ≡ t → (u : Bool) → has_byte kind ≡ u → Pays p kind (part at (cond t stop (cond u (at + 1) at)) b)
+      go : (t : Bool) → eqb kind TEXT ≡ t → (u : Bool) → has_byte kind ≡ u → Pays v p kind (part at (cond t stop (cond u (at + 1) at)) b)
       go true k u y = text_fits k h
       go false k true y = byte_fits k y h
       go false k false y = none_fits k y
@@ -83,38 +90,38 @@ skips_optional b p at end e =
     and_left t₁ t₂ (and_left (t₁ && t₂) (eqb (be32 b at) 0) e)
 
 -- what `one` reads up to `stop` fits
-abbrev Fit : List ℕ → ℕ → (ℕ → ℕ → ℕ → Read Tree) → Type 0
-Fit b left one = (p at stop : ℕ) (t : Tree) (q : ℕ) → stop ≤ length b → one p at stop ≡ got t q → Fits left p (plain b t)
+abbrev Fit : List ℕ → ℕ → ℕ → (ℕ → ℕ → ℕ → Read Tree) → Type 0
+Fit b v left one = (p at stop : ℕ) (t : Tree) (q : ℕ) → stop ≤ length b → one p at stop ≡ got t q → Fits v left p (plain b t)
 
-children_fit : (s b : List ℕ) (left : ℕ) → Fit b left (record_at s b 2 left) → (n row at stop : ℕ) (ts : Trees) (e : ℕ) → stop ≤ length b
-    → children_at (child_at s b 2 left) n row at stop ≡ got ts e → FitsRow left row (plains b ts)
+children_fit : (s b : List ℕ) (v left : ℕ) → Fit b v left (record_at s b v left) → (n row at stop : ℕ) (ts : Trees) (e : ℕ) → stop ≤ length b
+    → children_at (child_at s b v left) n row at stop ≡ got ts e → FitsRow v left row (plains b ts)
 unfolding children_at plain
-children_fit s b left f zero row at stop ts e far h = never h
-children_fit s b left f (suc n) row at stop ts e far h =
-    go (children_fit s b left f n (after row)) (read_turned (child_at s b 2 left) n row at stop ts e h)
+children_fit s b v left f zero row at stop ts e far h = never h
+children_fit s b v left f (suc n) row at stop ts e far h =
+    go (children_fit s b v left f n (after row)) (read_turned (child_at s b v left) n row at stop ts e h)
   where
-    go : ((at stop : ℕ) (ts : Trees) (e : ℕ) → stop ≤ length b → children_at (child_at s b 2 left) n (after row) at stop ≡ got ts e
-        → FitsRow left (after row) (plains b ts))
-        → ReadTurn (child_at s b 2 left) n row at stop ts e → FitsRow left row (plains b ts)
+    go : ((at stop : ℕ) (ts : Trees) (e : ℕ) → stop ≤ length b → children_at (child_at s b v left) n (after row) at stop ≡ got ts e
+        → FitsRow v left (after row) (plains b ts))
+        → ReadTurn (child_at s b v left) n row at stop ts e → FitsRow v left row (plains b ts)
     go more (ended c is) = rw is (ends c)
     go more (next t m us z o r is) = rw is (child (skips b (place row) at stop) refl o (more m stop us e far r))
       where
-        child : (x : Bool) → skips b (place row) at stop ≡ x → cond x (got absent (at + 4)) (record_at s b 2 left (bare (place row)) at stop) ≡ got t m
-            → FitsRow left (after row) (plains b us) → FitsRow left row (plains b (t ▸ us))
+        child : (x : Bool) → skips b (place row) at stop ≡ x → cond x (got absent (at + 4)) (record_at s b v left (bare (place row)) at stop) ≡ got t m
+            → FitsRow v left (after row) (plains b us) → FitsRow v left row (plains b (t ▸ us))
         child true k o rest =
             let gone-is : absent ≡ t = cc in
             rw (← gone-is) (gone (skips_optional b (place row) at stop k) rest)
         child false k o rest = here z (f (bare (place row)) at stop t m far o) rest
 
-pub record_fits : (s b : List ℕ) → Bytes b → (left : ℕ) → Fit b left (record_at s b 2 left)
+pub record_fits : (s b : List ℕ) → Bytes b → (v : ℕ) → (v ≡ 2) ⊎ (v ≡ 0) → (left : ℕ) → Fit b v left (record_at s b v left)
 unfolding plain
-record_fits s b small zero p at end t q far h = absurd (none_deep s b 2 p at end t q h)
-record_fits s b small (suc left) p at end t q far h =
-    let i = inside s b 2 left p at end t q h in
+record_fits s b small v two-or-none zero p at end t q far h = absurd (none_deep s b v p at end t q h)
+record_fits s b small v two-or-none (suc left) p at end t q far h =
+    let i = inside s b v left p at end t q h in
     let o = i.held in
     let far' : stop_at b at ≤ length b = omega (arith, o.right.within) in
     let low : at + 13 ≤ stop_at b at = omega (arith, o.right.long) in
     rw i.is
     (fits o.right.kind (range_order s (be32 b (at + 5)) (be32 b (at + 9)) o.span)
-    (payload_fits_lem b small p (kind_at b at) (at + 13) (stop_at b at) low far' o.right.payload)
-    (children_fit s b left (record_fits s b small left) _ _ _ _ _ _ far' i.kept))
+    (payload_fits_lem b small v two-or-none p (kind_at b at) (at + 13) (stop_at b at) low far' o.right.payload)
+    (children_fit s b v left (record_fits s b small v two-or-none left) _ _ _ _ _ _ far' i.kept))
