@@ -1,6 +1,7 @@
-/* The first worked example of docs/01-scope.md, formatted; then an image of a version that there is not, which is refused; then the columns of a
-   text by each rule of widths. */
+/* The first worked example of docs/01-scope.md, formatted; then an image of a version that there is not, which is refused, and one of version 2,
+   which is refused by supplied widths; then the example moved to version 2 and back; then the columns of a text by each rule of widths. */
 #include <stdio.h>
+#include <string.h>
 #include "rrufthim.h"
 
 /* A tree with the shebang `#!/x` and no declarations. */
@@ -29,6 +30,27 @@ static void format(const uint8_t *image, size_t image_len)
     }
 }
 
+/* For an archive: the example without widths, and again as it was. */
+static void moves(void)
+{
+    static const uint8_t source[1] = {0};
+    uint8_t kept[sizeof IMAGE], back[sizeof IMAGE];
+    uint64_t out[RRUFTHIM_FORWARD_OUT];
+    size_t bytes;
+
+    rrufthim_forward(source, 0, IMAGE, sizeof IMAGE, kept, sizeof kept, out);
+    if (out[0] != 0) {
+        printf("refused %lu at %lu\n", (unsigned long)out[0], (unsigned long)out[1]);
+        return;
+    }
+    bytes = (size_t)out[1];
+    printf("version %u: %lu bytes for %lu\n", (unsigned)kept[0], (unsigned long)bytes, (unsigned long)sizeof IMAGE);
+    rrufthim_back(source, 0, kept, bytes, back, sizeof back, out);
+    printf("back: %s\n", out[0] == 0 && out[1] == sizeof IMAGE && memcmp(back, IMAGE, sizeof IMAGE) == 0 ? "the same bytes" : "other bytes");
+    rrufthim_back(source, 0, kept, bytes, back, sizeof back - 1, out);
+    printf("a byte short: refused %lu at %lu\n", (unsigned long)out[0], (unsigned long)out[1]);
+}
+
 /* Two characters of three bytes and two columns each, and of rules one too many. */
 static void columns(void)
 {
@@ -53,9 +75,12 @@ int main(void)
     for (i = 0; i < sizeof IMAGE; i++) {
         other[i] = IMAGE[i];
     }
-    other[0] = 2;
     format(IMAGE, sizeof IMAGE);
+    other[0] = 3;
     format(other, sizeof other);
+    other[0] = RRUFTHIM_IMAGE_VERSION_2;
+    format(other, sizeof other);
+    moves();
     columns();
     return 0;
 }

@@ -1,7 +1,8 @@
 /*
  * The proved formatter for Roto scripts, as C calls it. The functions are those of librrufthim.a: target/staticlib/libexports.a, which
  * `tools/build exports` writes (x86-64 Linux), under a name that no other library has. docs/01-scope.md has the rules: the tree image,
- * rows, marks, states and refusals; docs/02-change-requests.md those of tallies, widths, modes, steps, batches and rules of widths.
+ * rows, marks, states and refusals; docs/02-change-requests.md those of tallies, widths, modes, steps, batches, rules of widths and the
+ * image's version 2.
  *
  * Buffers. A pointer to bytes, rows or a table goes with the number of its elements; state, args, choice, tallies and out have a fixed
  * number of places. No pointer may be NULL, even where the number is 0. store and table must be aligned for uint32_t, those of a fixed
@@ -17,10 +18,14 @@
  * Roto's own formatter does it (names as wide as the image says, literals by their bytes), or an edition of Unicode, which counts columns
  * for each character. Japanese has three bytes for most characters of two columns, so that by the first rule lists of literals wrap that fit.
  *
+ * Versions. An image's first byte is RRUFTHIM_IMAGE_VERSION_1, and each of its texts stores a width; or RRUFTHIM_IMAGE_VERSION_2, and none
+ * does. Version 2 is for archives: it is laid out and rendered by RRUFTHIM_WIDTHS_UNICODE_16_0 alone, and by any other rule refused by 20,
+ * before all else. rrufthim_forward and rrufthim_back move an image from one to the other.
+ *
  * Flags. In state and args every number but 0 means yes; in out a flag is 0 or 1.
  *
  * For people. The span that a refusal is about stands in the image, start and end as four bytes each, the highest first: for 5 and 6 behind
- * the length and the kind of the record, at image[out[1] + 5]; for 7 at image[out[1]], unless out[1] is 5, the place of their count.
+ * the length and the kind of the record, at image[out[1] + 5], and so for 21; for 7 at image[out[1]], unless out[1] is 5, the place of their count.
  */
 #ifndef RRUFTHIM_H
 #define RRUFTHIM_H
@@ -56,7 +61,10 @@ typedef char rrufthim_lengths_have_64_bits[sizeof(size_t) == 8 ? 1 : -1];
 #define RRUFTHIM_MORE_ROOM 17       /* the output is too short for the image or the steps, or the image's body over 1,048,576 bytes: bytes needed */
 #define RRUFTHIM_BAD_BATCH 18       /* a frame of the batch runs past the buffer, or is the 257th: frame's offset in the buffer */
 #define RRUFTHIM_MORE_FOR_BATCH 19  /* the table of the batch is too short, or the output: numbers of the table, or bytes, needed */
-#define RRUFTHIM_BAD_RULE 20        /* the rule of widths is none of 1 (supplied), 2 (Unicode 15.1) and 3 (Unicode 16.0): 0 */
+#define RRUFTHIM_BAD_RULE 20        /* the rule of widths is none of 1 (supplied), 2 (Unicode 15.1) and 3 (Unicode 16.0), or the image is of version
+                                       2, which has no widths, and the rule not 3: 0 */
+#define RRUFTHIM_WRONG_WIDTH 21     /* a width that the image stores isn't what Unicode 16.0 gives its text (the shebang's without blanks at its
+                                       end), or a text of an image of version 2 is over 65,535 columns: text record's offset in the image */
 
 /* Limits: past them a file is refused. A text may be longer than a source: such a text can't be formatted again. */
 #define RRUFTHIM_MAX_SOURCE 65536    /* bytes of a source */
@@ -72,6 +80,8 @@ typedef char rrufthim_lengths_have_64_bits[sizeof(size_t) == 8 ? 1 : -1];
 #define RRUFTHIM_WIDTHS_SUPPLIED 1   /* rules of widths: names are as wide as the image says, literals by their bytes, as by Roto's own */
 #define RRUFTHIM_WIDTHS_UNICODE_15_1 2 /* a character has 2 columns if East_Asian_Width is W or F, else 0 if General_Category is Mn or Me, */
 #define RRUFTHIM_WIDTHS_UNICODE_16_0 3 /* else 1: by Unicode 15.1, and by Unicode 16.0 */
+#define RRUFTHIM_IMAGE_VERSION_1 1   /* an image's first byte: each text has its width in two bytes before it */
+#define RRUFTHIM_IMAGE_VERSION_2 2   /* it has none */
 #define RRUFTHIM_MAX_FILES 4096      /* files that tallies count */
 #define RRUFTHIM_MAX_TALLY 4294967296 /* each of the tallies handed in */
 #define RRUFTHIM_MAX_BATCH 256       /* files of a batch */
@@ -97,6 +107,8 @@ typedef char rrufthim_lengths_have_64_bits[sizeof(size_t) == 8 ? 1 : -1];
 #define RRUFTHIM_STEPS_OUT 2
 #define RRUFTHIM_BATCH_OUT 3
 #define RRUFTHIM_COLUMNS_OUT 2
+#define RRUFTHIM_FORWARD_OUT 2
+#define RRUFTHIM_BACK_OUT 2
 
 /*
  * Which library this header is for.
@@ -110,8 +122,8 @@ typedef char rrufthim_lengths_have_64_bits[sizeof(size_t) == 8 ? 1 : -1];
  * the major is 0, the minor is raised for both. Another shape is always another version too.
  */
 #define RRUFTHIM_SHAPE 2
-#define RRUFTHIM_VERSION "0.3"
-#define RRUFTHIM_VERSION_NUMBER 3
+#define RRUFTHIM_VERSION "0.4"
+#define RRUFTHIM_VERSION_NUMBER 4
 
 #define RRUFTHIM_JOIN_AS_IT_IS(name, number) name##number
 #define RRUFTHIM_JOIN(name, number) RRUFTHIM_JOIN_AS_IT_IS(name, number)
@@ -126,9 +138,11 @@ typedef char rrufthim_lengths_have_64_bits[sizeof(size_t) == 8 ? 1 : -1];
 #define rrufthim_steps RRUFTHIM_SYMBOL(steps)
 #define rrufthim_batch RRUFTHIM_SYMBOL(batch)
 #define rrufthim_columns RRUFTHIM_SYMBOL(columns)
+#define rrufthim_forward RRUFTHIM_SYMBOL(forward)
+#define rrufthim_back RRUFTHIM_SYMBOL(back)
 
 /*
- * Whether a source and its tree image are accepted. Refusals 1 to 7.
+ * Whether a source and its tree image, of either version, are accepted. Refusals 1 to 7.
  *
  * out: [0] 0, [1] number of comments, [2] offset of the tree's record in the image, [3] number of declarations: the stop at which
  *      rrufthim_layout may close.
@@ -217,8 +231,8 @@ void rrufthim_newlines(
 
 /*
  * Counts a file: formats it at 80 columns in mode 0 with supplied widths, in 1,800 rows, 1,800 marks and 65,536 bytes of output of its own,
- * and adds its figures to the tallies. The tallies of the same files are the same in any order. Refusals 1 to 10, then 14; a refused file
- * counts nowhere.
+ * and adds its figures to the tallies. The tallies of the same files are the same in any order. Refusals 20 for an image of version 2, 1 to
+ * 10, then 14; a refused file counts nowhere.
  *
  * tallies: [0] files counted, and of them all [1] bytes and [2] newlines of the texts, [3] the greatest column, [4] group numbers given,
  *          [5] groups wrapped, [6] comments in the texts, [7] comments that they don't hold. Fresh: all 0. Later: out[8] to out[15] of
@@ -233,7 +247,7 @@ void rrufthim_count(
     uint64_t out[RRUFTHIM_COUNT_OUT]);
 
 /*
- * Writes an image from steps, for who has no source: a generator. A step is a byte, then its numbers, the highest byte first:
+ * Writes an image of version 1 from steps, for who has no source: a generator. A step is a byte, then its numbers, the highest byte first:
  *   1 comment: start, end, four bytes each; before all other steps
  *   2 open a record: kind, one byte; start and end of its span, four bytes each
  *   3 text, of the text record just opened: width, two bytes; length, four bytes; the text, which is UTF-8
@@ -251,8 +265,8 @@ void rrufthim_write(
     uint64_t out[RRUFTHIM_WRITE_OUT]);
 
 /*
- * The steps of an image, read with its source: those that rrufthim_write turns into it, and no others do. Refusals 1 to 7, then 17. Six
- * bytes of output for each five of image are enough.
+ * The steps of an image of version 1, read with its source: those that rrufthim_write turns into it, and no others do. Refusals 1 to 7 (3 for
+ * version 2 too), then 17. Six bytes of output for each five of image are enough.
  *
  * output: is written from its start on.
  * out:    [0] 0, [1] bytes of the steps.
@@ -296,6 +310,34 @@ void rrufthim_columns(
     uint64_t rule,
     uint64_t supplied,
     uint64_t out[RRUFTHIM_COLUMNS_OUT]);
+
+/*
+ * For archives: the image of version 1 as one of version 2, which is the same without the two bytes of each text's width. It is allowed where
+ * each width is what RRUFTHIM_WIDTHS_UNICODE_16_0 gives, the shebang's without the blanks at its end; then rrufthim_back returns the same bytes.
+ * Refusals 1 to 7 (3 for version 2 too), 21, 17; each leaves the output as it was.
+ *
+ * output: is written from its start on; as many bytes as the image has are enough.
+ * out:    [0] 0, [1] bytes of the moved image.
+ */
+void rrufthim_forward(
+    const uint8_t *source, size_t source_len,
+    const uint8_t *image, size_t image_len,
+    uint8_t *output, size_t output_len,
+    uint64_t out[RRUFTHIM_FORWARD_OUT]);
+
+/*
+ * The way back: the image of version 2 as one of version 1, with the widths that RRUFTHIM_WIDTHS_UNICODE_16_0 gives. Refusals 1 to 7 (3 for
+ * version 1 too), 21 for a text of more columns than two bytes hold, 17, also for a body that would be over RRUFTHIM_MAX_BODY, whatever is lent;
+ * each leaves the output as it was.
+ *
+ * output: is written from its start on; two bytes more for each thirteen of the image are enough.
+ * out:    [0] 0, [1] bytes of the moved image.
+ */
+void rrufthim_back(
+    const uint8_t *source, size_t source_len,
+    const uint8_t *image, size_t image_len,
+    uint8_t *output, size_t output_len,
+    uint64_t out[RRUFTHIM_BACK_OUT]);
 
 #ifdef __cplusplus
 }

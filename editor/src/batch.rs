@@ -34,7 +34,7 @@ const IMAGE_FRAMED: usize = HEADER + MAX_BODY + 1;
 /// use rrufthim::{Batch, File, encode};
 ///
 /// let image = encode(&Default::default(), &[])?;
-/// let files = [File::new("", &image), File::new("", &[2, 0, 0])];
+/// let files = [File::new("", &image), File::new("", &[3, 0, 0])];
 /// let [first, second] = &Batch::new().format_files(files)[..] else {
 ///     panic!("two answers");
 /// };

@@ -4,6 +4,7 @@ use std::{error::Error, fmt};
 
 use crate::{
     ast::{self, Meta, Span, SyntaxTree},
+    image::Version,
     limits::{MAX_BODY, MAX_COMMENTS, MAX_DEPTH, MAX_SOURCE, MAX_WIDTH},
     writer::{ImageWriter, WriteResult},
 };
@@ -39,7 +40,7 @@ pub enum EncodeError {
         /// The span.
         span: Span,
     },
-    /// A text over 65,535 columns.
+    /// A text over 65,535 columns, in version 1.
     TooWide {
         /// Where it stands.
         span: Span,
@@ -110,7 +111,8 @@ impl fmt::Display for EncodeError {
 
 impl Error for EncodeError {}
 
-/// The image of a tree and its comments, with [`simple_width`] for widths.
+/// The image of a tree and its comments, of version 1 and with
+/// [`simple_width`] for widths.
 ///
 /// It doesn't see the source: whether spans lie in it, and on boundaries of
 /// characters, is for [`check`](crate::calls::check) to say (refusals 6 and
@@ -123,10 +125,37 @@ pub fn encode(
     tree: &SyntaxTree,
     comments: &[Span],
 ) -> Result<Vec<u8>, EncodeError> {
-    encode_written(|out| write_tree(out, tree, comments, simple_width))
+    encode_as(Version::One, tree, comments)
 }
 
-/// The image that the caller writes: its comments, then its tree.
+/// The same in a version. Of version 2, which stores no widths, a text may
+/// have any, and layout and rendering ask for
+/// [`Widths::Unicode16_0`](crate::Widths::Unicode16_0).
+///
+/// ```
+/// use rrufthim::{File, Formatter, Options, Version, Widths, encode_as};
+///
+/// let image = encode_as(Version::Two, &Default::default(), &[])?;
+/// let options = Options::default().with_widths(Widths::Unicode16_0);
+/// let mut formatter = Formatter::new().with_options(options);
+/// assert_eq!(formatter.format_file(File::new("", &image))?.text, "");
+/// # Ok::<(), Box<dyn std::error::Error>>(())
+/// ```
+///
+/// # Errors
+///
+/// As [`encode`].
+pub fn encode_as(
+    version: Version,
+    tree: &SyntaxTree,
+    comments: &[Span],
+) -> Result<Vec<u8>, EncodeError> {
+    encode_written_as(version, |out| {
+        write_tree(out, tree, comments, simple_width)
+    })
+}
+
+/// The image of version 1 that the caller writes: its comments, then its tree.
 ///
 /// # Errors
 ///
@@ -134,8 +163,20 @@ pub fn encode(
 pub fn encode_written(
     write: impl FnOnce(&mut ImageWriter<'_>) -> WriteResult,
 ) -> Result<Vec<u8>, EncodeError> {
+    encode_written_as(Version::One, write)
+}
+
+/// The same in a version.
+///
+/// # Errors
+///
+/// What is over a limit.
+pub fn encode_written_as(
+    version: Version,
+    write: impl FnOnce(&mut ImageWriter<'_>) -> WriteResult,
+) -> Result<Vec<u8>, EncodeError> {
     let mut image = Vec::new();
-    let mut out = ImageWriter::new(&mut image);
+    let mut out = ImageWriter::of_version(version, &mut image);
     write(&mut out)
         .and_then(|()| out.finish())
         .map_err(|error| *error)?;

@@ -51,9 +51,13 @@ impl FormatError {
     }
 
     /// What is wrong with the span of the source, where the refusal's own
-    /// words are about an offset in an image.
+    /// words are about an offset in an image; and of 20 what is wrong here,
+    /// where each rule has a name.
     fn in_source(&self) -> Option<String> {
+        const NO_WIDTHS: &str = "the tree image is of version 2, which has no \
+            widths: choose those of Unicode 16.0";
         match (&self.cause, &self.place) {
+            (Cause::Refused(Refusal::BadRule), _) => Some(NO_WIDTHS.into()),
             (Cause::Refused(refusal), Some(place)) => {
                 refusal.in_source(&place.span)
             }

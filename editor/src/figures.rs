@@ -122,7 +122,7 @@ pub struct Counted {
 ///
 /// # Errors
 ///
-/// Refusals 1 to 10, then 14, each of which leaves the tallies as they were.
+/// Refusals 20, for an image of version 2, 1 to 10, then 14, each of which leaves the tallies as they were.
 pub fn count(
     file: File<'_>,
     tallies: &mut Tallies,

@@ -2,7 +2,11 @@
 
 use std::fmt;
 
-use crate::{error::FormatError, image, refusal::Refusal};
+use crate::{
+    error::FormatError,
+    image::{self, Version},
+    refusal::Refusal,
+};
 
 /// A source and the image of its syntax tree, as [`encode`](crate::encode) or
 /// a [`Builder`](crate::generator::Builder) gives it. Both are the same in
@@ -45,6 +49,11 @@ impl<'f> File<'f> {
     /// that.
     pub fn declarations(&self) -> usize {
         image::declarations(self.image)
+    }
+
+    /// The image's version, by its first byte: whether it stores widths.
+    pub fn version(&self) -> Option<Version> {
+        Version::of(self.image)
     }
 
     /// A refusal of this file in words for people, with its place in the

@@ -140,7 +140,9 @@ impl Formatter {
     ///
     /// # Errors
     ///
-    /// Refusals 1 to 7; 15 if the options have such a width; 10 if the text
+    /// Refusals 1 to 7; 20, before all else, for an image of version 2 if
+    /// widths aren't those of Unicode 16.0; 15 if the options have such a
+    /// width; 10 if the text
     /// is longer than allowed; and 8, 9 or 10 if there is no memory for what
     /// they ask.
     pub fn format_file(

@@ -1,8 +1,45 @@
 //! What a caller must know of an image's bytes.
 
-use std::iter;
+use std::{fmt, iter};
 
 use crate::{ast::Span, kind};
+
+/// The version of a tree image, which its first byte says.
+#[derive(Clone, Copy, Debug, Default, PartialEq, Eq, Hash)]
+#[non_exhaustive]
+pub enum Version {
+    /// Each text stores its width.
+    #[default]
+    One,
+    /// No text does: for archives. Such an image is laid out and rendered by
+    /// [`Widths::Unicode16_0`](crate::Widths::Unicode16_0) alone, and by any
+    /// other rule refused by 20.
+    Two,
+}
+
+impl Version {
+    /// What an image of this version starts with.
+    pub fn first_byte(self) -> u8 {
+        match self {
+            Version::One => 1,
+            Version::Two => 2,
+        }
+    }
+
+    /// That of an image, by its first byte alone; `None` for any other byte,
+    /// and for none.
+    pub fn of(image: &[u8]) -> Option<Version> {
+        let first = *image.first()?;
+        let mut all = [Version::One, Version::Two].into_iter();
+        all.find(|version| version.first_byte() == first)
+    }
+}
+
+impl fmt::Display for Version {
+    fn fmt(&self, f: &mut fmt::Formatter<'_>) -> fmt::Result {
+        write!(f, "version {}", self.first_byte())
+    }
+}
 
 /// Version and length of the body.
 pub const HEADER: usize = 5;
@@ -66,6 +103,27 @@ pub fn span_at(image: &[u8], at: usize) -> Option<Span> {
 
 fn pair(image: &[u8], at: usize) -> Option<Span> {
     Some(number(image, at)?..number(image, at.checked_add(4)?)?)
+}
+
+/// The text of the text record at this offset, as the image's version has it,
+/// and the width that it stores.
+pub fn text_at(image: &[u8], at: usize) -> Option<(&str, Option<usize>)> {
+    let record = at.checked_add(LENGTH)?;
+    let end = record.checked_add(number(image, at)?)?;
+    let payload = image.get(record.checked_add(HEAD)?..end)?;
+    let (width, text) = match Version::of(image)? {
+        Version::One => {
+            let (width, text) = payload.split_first_chunk()?;
+            (Some(u16::from_be_bytes(*width).into()), text)
+        }
+        Version::Two => (None, payload),
+    };
+    Some((std::str::from_utf8(text).ok()?, width))
+}
+
+/// Whether the record at this offset is the shebang's: the tree's first child.
+pub fn is_shebang(image: &[u8], at: usize) -> bool {
+    children(image).next() == Some(at)
 }
 
 /// The number at an offset, if there is one.

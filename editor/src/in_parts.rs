@@ -67,7 +67,8 @@ impl<'f> InParts<'f> {
     /// The same with other options, for all of it: once a part is laid out
     /// or rendered, another choice is refused, by 12 if it is of comments or
     /// of the rule of widths, by 15 if it is of the width. A width that isn't
-    /// legal is refused by the first part that is rendered.
+    /// legal is refused by the first part that is rendered. An image of
+    /// version 2 is refused by 20, unless widths are those of Unicode 16.0.
     #[must_use]
     pub fn with_options(mut self, options: Options) -> Self {
         self.options = options;

@@ -29,7 +29,8 @@
 //!   text of a long file a part at a time.
 //! - **Images.** What all calls read is a [`File`]: a source, and its tree as
 //!   an image. [`encode`] gives that of a tree, [`encode_written`] that of
-//!   what a plug writes, and a [`generator`] builds one from steps.
+//!   what a plug writes, and a [`generator`] builds one from steps. An
+//!   [`archive`] may keep them without widths.
 //! - **The proved functions themselves** are [`calls`], over slices that the
 //!   caller lends: any arguments that safe Rust can give them end in an
 //!   answer or a [`Refusal`]. [`figures`] counts files.
@@ -46,6 +47,7 @@
 // By this name the files of plug/ find what they use.
 extern crate self as rrufthim;
 
+pub mod archive;
 pub mod ast;
 mod batch;
 mod buffers;
@@ -72,13 +74,15 @@ mod writer;
 pub use ast::Span;
 pub use batch::Batch;
 pub use encode::{
-    EncodeError, encode, encode_written, simple_width, write_tree,
+    EncodeError, encode, encode_as, encode_written, encode_written_as,
+    simple_width, write_tree,
 };
 pub use error::{Cause, FormatError};
 pub use file::File;
 pub use fmt::{fmt_parsed, fmt_written};
 pub use formatted::{CommentsLeft, Formatted};
 pub use formatter::Formatter;
+pub use image::Version;
 pub use in_parts::InParts;
 pub use linked::SHAPE;
 pub use options::{Comments, Options, Widths};

@@ -170,6 +170,23 @@ linked! {
         out: &mut [u64; 3],
     );
 
+    /// An image of version 1 as one of version 2. `out`: 0, bytes written; or
+    /// number, place.
+    fn forward(
+        source: &[u8],
+        image: &[u8],
+        output: &mut [u8],
+        out: &mut [u64; 2],
+    );
+
+    /// The same the other way.
+    fn back(
+        source: &[u8],
+        image: &[u8],
+        output: &mut [u8],
+        out: &mut [u64; 2],
+    );
+
     /// The columns of a text by a rule; by 1 they are `supplied`. `out`: 0,
     /// columns; or number, place.
     fn columns(text: &[u8], rule: u64, supplied: u64, out: &mut [u64; 2]);

@@ -74,7 +74,9 @@ pub enum Widths {
     /// enclosing mark (General_Category Mn or Me), else 1. What the image
     /// says isn't looked at.
     Unicode15_1,
-    /// The same by Unicode 16.0.
+    /// The same by Unicode 16.0. An image of version 2, which says no columns
+    /// ([`archive`](crate::archive)), is formatted by this rule alone, and by
+    /// any other refused by 20.
     Unicode16_0,
 }
 

@@ -1,4 +1,4 @@
-//! Why a call is turned down: the table of docs/01-scope.md, and 14 to 20 of
+//! Why a call is turned down: the table of docs/01-scope.md, and 14 to 21 of
 //! docs/02-change-requests.md.
 
 use std::{error::Error, fmt};
@@ -151,7 +151,12 @@ refusals! {
     19 MoreForBatch "the table of the batch is too short, or the output",
         needed: "numbers of the table, or bytes, needed";
     20 BadRule "the rule of widths is none of 1 (supplied), 2 (Unicode 15.1) \
-        and 3 (Unicode 16.0)";
+        and 3 (Unicode 16.0), or the image is of version 2, which has no \
+        widths, and the rule not 3";
+    21 WrongWidth "a width that the image stores isn't what Unicode 16.0 \
+        gives its text (the shebang's without blanks at its end), or a text \
+        of an image of version 2 is over 65,535 columns",
+        at: "text record's offset in the image";
 }
 
 impl Refusal {
@@ -160,7 +165,7 @@ impl Refusal {
         Self::TABLE.iter().find(|row| row.number == self.number())
     }
 
-    /// The span of the source that 2, 5, 6 or 7 is about; for 5, 6 and 7 as
+    /// The span of the source that 2, 5, 6, 7 or 21 is about; for all but 2 as
     /// the refused image has it, so that it need not lie in the source.
     /// `None` for other causes, and where the count of comments is wrong.
     /// [`Place`](crate::Place) gives its line and column.
@@ -170,6 +175,10 @@ impl Refusal {
             Self::SourceNotUtf8 { at } => Some(at..source.len()),
             Self::TooDeep { at } | Self::BadSpan { at } => span_at(image, at),
             Self::BadComment { at } => comment_at(image, at),
+            // An empty one is no place of the source.
+            Self::WrongWidth { at } => {
+                span_at(image, at).filter(|span| !span.is_empty())
+            }
             _ => None,
         }
     }

@@ -4,7 +4,7 @@
 use crate::{
     ast::Span,
     encode::EncodeError,
-    image::{HEAD, HEADER, LENGTH},
+    image::{HEAD, HEADER, LENGTH, Version},
     kind,
     limits::{MAX_BODY, MAX_COMMENTS, MAX_DEPTH, MAX_SOURCE},
 };
@@ -30,6 +30,7 @@ pub type WriteResult<T = ()> = Result<T, Box<EncodeError>>;
 #[derive(Debug)]
 pub struct ImageWriter<'b> {
     out: &'b mut Vec<u8>,
+    version: Version,
     /// How many records are open.
     depth: usize,
 }
@@ -44,11 +45,21 @@ pub struct OpenRecord {
 }
 
 impl<'b> ImageWriter<'b> {
-    /// A writer into this buffer. What it held is dropped, its room is kept.
+    /// A writer of version 1 into this buffer. What it held is dropped, its
+    /// room is kept.
     pub fn new(out: &'b mut Vec<u8>) -> Self {
+        ImageWriter::of_version(Version::One, out)
+    }
+
+    /// A writer of this version into this buffer.
+    pub fn of_version(version: Version, out: &'b mut Vec<u8>) -> Self {
         out.clear();
-        out.extend([1, 0, 0, 0, 0]);
-        ImageWriter { out, depth: 0 }
+        out.extend([version.first_byte(), 0, 0, 0, 0]);
+        ImageWriter {
+            out,
+            version,
+            depth: 0,
+        }
     }
 
     /// The comments, in the order of the source.
@@ -132,7 +143,8 @@ impl<'b> ImageWriter<'b> {
         self.head(HEAD + 1, kind, span, [payload])
     }
 
-    /// A text record: a name or the shebang, with its width in columns.
+    /// A text record: a name or the shebang, with its width in columns. In
+    /// version 2 the width isn't written, nor looked at.
     ///
     /// # Errors
     ///
@@ -144,12 +156,23 @@ impl<'b> ImageWriter<'b> {
         text: &str,
         width: usize,
     ) -> WriteResult {
+        if self.version == Version::Two {
+            return self.bare_text(span, text);
+        }
         let Ok(columns) = u16::try_from(width) else {
             return Err(EncodeError::TooWide { span, width }.into());
         };
         self.room_for(text.len())?;
         let length = HEAD + 2 + text.len();
         self.head(length, kind::TEXT, span, columns.to_be_bytes())?;
+        self.out.extend_from_slice(text.as_bytes());
+        Ok(())
+    }
+
+    /// A text record without a width.
+    fn bare_text(&mut self, span: Span, text: &str) -> WriteResult {
+        self.room_for(text.len())?;
+        self.head(HEAD + text.len(), kind::TEXT, span, [])?;
         self.out.extend_from_slice(text.as_bytes());
         Ok(())
     }

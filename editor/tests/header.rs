@@ -9,7 +9,7 @@ use declared::{
     HEADER, LINKED, constants, declared, exported, exports, linked, refusals,
 };
 use rrufthim::{
-    Options, Refusal, SHAPE,
+    Options, Refusal, SHAPE, Version,
     calls::{ROW, TABLE_ROW},
     limits::*,
 };
@@ -17,7 +17,7 @@ use rrufthim::{
 #[test]
 fn all_say_the_same() {
     let exported = exported(&exports());
-    assert_eq!(exported.len(), 10);
+    assert_eq!(exported.len(), 12);
     assert_eq!(linked(LINKED), exported);
     assert_eq!(declared(HEADER), exported);
     let check = format!("rrufthim_check_s{SHAPE}");
@@ -77,6 +77,8 @@ fn a_difference_is_found() {
         ("uint32_t *table", "const uint32_t *table"),
         ("const uint8_t *frames", "uint8_t *frames"),
         ("_COLUMNS_OUT 2", "_COLUMNS_OUT 3"),
+        ("_FORWARD_OUT 2", "_FORWARD_OUT 3"),
+        ("_BACK_OUT 2", "_BACK_OUT 3"),
         (
             "uint64_t rule,\n    uint64_t supplied",
             "uint64_t supplied,\n    uint64_t rule",
@@ -158,6 +160,13 @@ fn sizes_have_their_names() {
     assert_eq!(value("RRUFTHIM_WIDTHS_SUPPLIED"), 1);
     assert_eq!(value("RRUFTHIM_WIDTHS_UNICODE_15_1"), 2);
     assert_eq!(value("RRUFTHIM_WIDTHS_UNICODE_16_0"), 3);
+    // The first byte of an image, of the same, 9.
+    for (name, version) in [
+        ("RRUFTHIM_IMAGE_VERSION_1", Version::One),
+        ("RRUFTHIM_IMAGE_VERSION_2", Version::Two),
+    ] {
+        assert_eq!(value(name), usize::from(version.first_byte()));
+    }
     assert_eq!(value("RRUFTHIM_MAX_FILES"), MAX_FILES);
     assert_eq!(value("RRUFTHIM_MAX_TALLY"), MAX_TALLY);
     assert_eq!(value("RRUFTHIM_MAX_BATCH"), MAX_BATCH);

@@ -22,7 +22,7 @@ fn image() -> Vec<u8> {
 #[test]
 fn numbers_and_places_come_back() {
     let numbers = Refusal::TABLE.iter().map(|row| row.number);
-    assert!(numbers.eq(1..=20));
+    assert!(numbers.eq(1..=21));
     let without = Refusal::TABLE.iter().filter(|row| row.place.is_none());
     let without: Vec<_> = without.map(|row| row.number).collect();
     assert_eq!(without, [1, 3, 12, 13, 14, 15, 20]);
@@ -46,7 +46,7 @@ fn each_has_a_sentence_of_its_own() {
         words
     });
     let sentences: HashSet<String> = sentences.collect();
-    assert_eq!(sentences.len(), 20);
+    assert_eq!(sentences.len(), 21);
     let output = Refusal::MoreOutput { needed: 77 };
     let due = "the output is too short (bytes needed: 77)";
     assert_eq!(output.to_string(), due);
@@ -78,7 +78,10 @@ fn the_reader_refuses() {
     assert_eq!(checked(&long, &image()), Err(Refusal::SourceTooLong));
     let bad = Refusal::SourceNotUtf8 { at: 2 };
     assert_eq!(checked(b"ab\xFF", &image()), Err(bad));
-    assert_eq!(checked(source, &damaged(0, 2)), Err(Refusal::NoImage));
+    for version in [0, 3, 255] {
+        let other = damaged(0, version);
+        assert_eq!(checked(source, &other), Err(Refusal::NoImage));
+    }
     // The comment's pair is at 7, the tree's record at 15, the constant's
     // behind its kind, span and absent shebang.
     let at = 15 + 4 + 9 + 4;

@@ -217,7 +217,7 @@ fn newer_work_is_left_alone() {
 fn the_others_are_saved_all_the_same() {
     let folder = Folder::new("others");
     folder.put("cut.frame", b"\0\0\0\x09x");
-    folder.put("refused.frame", b"\0\0\0\0\x02");
+    folder.put("refused.frame", b"\0\0\0\0\x03");
     folder.put_frame("a.frame");
     folder.put("newer.roto", NEWER);
     fs::create_dir(folder.path("inner")).expect("a folder");

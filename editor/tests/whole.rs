@@ -4,7 +4,7 @@
 mod support;
 
 use rrufthim::{
-    File, Formatter, Options, Refusal,
+    File, Formatter, Options, Refusal, Version, Widths,
     ast::*,
     calls::{LayoutState, check, format_file, layout},
     encode,
@@ -159,7 +159,12 @@ fn counts_of_damaged_images() {
             assert_eq!(accepted.declarations, count);
             let store = &mut Buffers::ample().store;
             let fresh = LayoutState::default();
-            let options = &Options::default();
+            // A first byte 2 may come of the damage.
+            let widths = match file.version() {
+                Some(Version::Two) => Widths::Unicode16_0,
+                _ => Widths::Supplied,
+            };
+            let options = &Options::default().with_widths(widths);
             let laid = layout(file, store, &fresh, &all(count), options);
             assert!(laid.is_ok(), "{laid:?}");
         }

@@ -18,7 +18,7 @@ use Rattle.layout_facts.proofs.Limits.{closed_within}
 use Rattle.cut_rule.specs.States.{layout_fresh, render_fresh}
 use Rattle.cut_rule.specs.Tests.{mode_tests, width_tests, chosen_tests}
 use Rattle.cut_rule.specs.Parts.{rule_line, width_line}
-use Rattle.whole_run.specs.Parts.{keeps_waiting}
+use Rattle.whole_run.specs.Parts.{other_rule, keeps_waiting}
 use Rattle.whole_run.specs.File.{mode_line, file_rows, file_marks, file_before_marks, file_marks_line, file_before_text}
 use Rattle.whole_run.specs.FileLimits.{FILE_TEXT}
 use Rattle.whole_run.specs.Built.{layout_choice, render_choice, FileChoice, rows_due, marks_due}
@@ -78,7 +78,7 @@ module _ (s b : List ℕ) where
 
     early_lines : Fines (first (file_before_text s b c file_rows file_marks))
     early_lines =
-        fine_or (rule_line c.rule) _ (fine_if (any (chosen_tests c.rule)) 20 0 (λ e. omega arith) (omega arith))
+        fine_or (rule_line (other_rule b c.rule) c.rule) _ (fine_if (any (chosen_tests (other_rule b c.rule) c.rule)) 20 0 (λ e. omega arith) (omega arith))
         (λ r.
         fine_or (read_refusal (read_all s b)) _ read_fine
         (λ h.

@@ -6,6 +6,7 @@ ghost use Rattle.refusals.specs.Refusals.{any};
 ghost use Rattle.refusals.specs.Reasons.{refusal_in, answer_of};
 ghost use Rattle.cut_rule.specs.Tests.{rule_tests};
 ghost use Rattle.cut_rule.specs.Parts.{rule_line};
+ghost use Rattle.whole_run.specs.Parts.{other_rule};
 ghost use Rattle.choices.specs.Columns.{columns_answer};
 
 use refusals::{Reason, Refused};
@@ -13,11 +14,18 @@ use rows::units::Columns;
 use widths::Edition;
 use widths::rules::{SUPPLIED, UNICODE_16_0};
 
-// Refusal 20: whether a rule is one of the three.
-pub fn rule_chosen(rule: usize) -> Result<(), Refused>
-    ensures { refusal_in result ≡ rule_line rule }
+// Whether an image asks for another rule: version 2 is laid out by 16.0 alone.
+fn is_other_rule(image: &[u8], rule: usize) -> bool
+    ensures { result ≡ other_rule image.now rule }
 {
-    if rule < SUPPLIED || UNICODE_16_0 < rule {
+    image.first() == Some(&2) && rule != UNICODE_16_0
+}
+
+// Refusal 20: whether a rule is one of the three, and none but that which the image asks for.
+pub fn rule_chosen(image: &[u8], rule: usize) -> Result<(), Refused>
+    ensures { refusal_in result ≡ rule_line (other_rule image.now rule) rule }
+{
+    if rule < SUPPLIED || UNICODE_16_0 < rule || is_other_rule(image, rule) {
         return Err(Reason::Rule.at(0));
     }
     Ok(())
@@ -34,7 +42,7 @@ pub fn rule_fits(rule: usize, carried: usize) -> bool
 pub fn text_columns(text: &[u8], rule: usize, supplied: usize) -> Result<Columns, Refused>
     ensures { answer_of (λ c. c.0) result ≡ columns_answer rule supplied text.now }
 {
-    rule_chosen(rule)?;
+    rule_chosen(&[], rule)?;
     let Some(edition) = Edition::of(rule) else {
         return Ok(Columns(supplied));
     };

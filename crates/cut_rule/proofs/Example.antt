@@ -53,6 +53,7 @@ small = record {
   declarations = 2;
   comments = 2;
   layout_image = None;
+  other_rule = λ rule. false;
   render_image_of = λ c. None;
   shebang = λ k c. record { cursor = c; rows = [] };
   declaration = λ k n c. placing (ltb c.placed 2) c;

@@ -33,8 +33,8 @@ pub record LegalRule (rule : ℕ) : Type 0 where
   pub least : MIN_RULE ≤ rule
   pub most : rule ≤ MAX_RULE
 
-rule_legal : (rule : ℕ) → any (chosen_tests rule) ≡ false → LegalRule rule
-rule_legal rule e = record {
+rule_legal : (other : Bool) (rule : ℕ) → any (chosen_tests other rule) ≡ false → LegalRule rule
+rule_legal other rule e = record {
   least = first_within rule MIN_RULE _ e;
   most = first_within MAX_RULE rule _ (or_rest (ltb rule MIN_RULE) _ e);
 }
@@ -244,7 +244,8 @@ module _ (P : RuleParts) where
   layout_told q s store e =
       let needs = rows_needed P q s in
       let tests = any (layout_tests P q s store) in
-      let line_20 = rule_line q.choice.rule in
+      let other = P.other_rule q.choice.rule in
+      let line_20 = rule_line other q.choice.rule in
       let line_12 = refuse_if tests 12 0 in
       let line_8 = refuse_if (ltb (rows_in store) needs) 8 needs in
       let before = passes_left (before_rows P q s store) (rows_line P q s store) e in
@@ -252,8 +253,8 @@ module _ (P : RuleParts) where
       let after_20 = passes_others line_20 (P.layout_image ∷ line_12 ∷ []) before in
       record {
         legal =
-            rule_legal q.choice.rule
-            (not_if (any (chosen_tests q.choice.rule)) 20 0 (passes_line line_20 (P.layout_image ∷ line_12 ∷ []) before));
+            rule_legal other q.choice.rule
+            (not_if (any (chosen_tests other q.choice.rule)) 20 0 (passes_line line_20 (P.layout_image ∷ line_12 ∷ []) before));
         image = passes_line P.layout_image (line_12 ∷ []) after_20;
         fits =
             layout_fits P.declarations P.comments P.source_size (rows_in store) q s
@@ -274,7 +275,8 @@ module _ (P : RuleParts) where
       let c = q.to.choice in
       let found = P.wrong_row c store s.row q.to.stop in
       let tests = any (render_tests q s store marks) in
-      let line_20 = rule_line c.rule in
+      let other = P.other_rule c.rule in
+      let line_20 = rule_line other c.rule in
       let line_11 = refuse_at found 11 in
       let line_12 = refuse_if tests 12 0 in
       let line_15 = width_line c s in
@@ -283,7 +285,7 @@ module _ (P : RuleParts) where
       let after_11 = passes_others line_11 (line_12 ∷ line_15 ∷ []) behind in
       let after_12 = passes_others line_12 (line_15 ∷ []) after_11 in
       record {
-        legal = rule_legal c.rule (not_if (any (chosen_tests c.rule)) 20 0 (passes_line line_20 others e));
+        legal = rule_legal other c.rule (not_if (any (chosen_tests other c.rule)) 20 0 (passes_line line_20 others e));
         right = not_at found 11 (passes_line line_11 (line_12 ∷ line_15 ∷ []) behind);
         fits = render_fits q s store marks (not_if tests 12 0 (passes_line line_12 (line_15 ∷ []) after_11));
         width = width_fits c.width s.width (not_if (any (width_tests c.width s.width)) 15 0 (passes_line line_15 [] after_12));

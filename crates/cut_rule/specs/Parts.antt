@@ -23,6 +23,8 @@ pub record RuleParts : Type 0 where
   pub source_size : ℕ
   pub declarations : ℕ
   pub comments : ℕ
+  -- 20's second cause: whether a rule is another than the image asks for
+  pub other_rule : ℕ → Bool
   -- 1 to 7; and of these 1 and 3, "by the same tests"
   pub layout_image : Option Refusal
   pub render_image_of : RenderChoice → Option Refusal
@@ -46,8 +48,8 @@ abbrev pub and_then : Piece → (Cursor → Piece) → Piece
 and_then p g = record { cursor = (g p.cursor).cursor; rows = p.rows ++ (g p.cursor).rows }
 
 -- 20
-abbrev pub rule_line : ℕ → Option Refusal
-rule_line rule = refuse_if (any (chosen_tests rule)) 20 0
+abbrev pub rule_line : Bool → ℕ → Option Refusal
+rule_line other rule = refuse_if (any (chosen_tests other rule)) 20 0
 
 -- 15
 abbrev pub width_line : RenderChoice → RenderState → Option Refusal
@@ -91,7 +93,7 @@ module _ (P : RuleParts) where
 
   -- "Layout uses 1 to 7, 12, 8", and 20 "before 1", in two parts: the lines before it is counted how many rows there will be, and 8
   abbrev pub before_rows : LayoutArgs LayoutChoice → LayoutState → List ℕ → List (Option Refusal)
-  before_rows q s store = rule_line q.choice.rule ∷ P.layout_image ∷ refuse_if (any (layout_tests q s store)) 12 0 ∷ []
+  before_rows q s store = rule_line (P.other_rule q.choice.rule) q.choice.rule ∷ P.layout_image ∷ refuse_if (any (layout_tests q s store)) 12 0 ∷ []
 
   abbrev pub rows_line : LayoutArgs LayoutChoice → LayoutState → List ℕ → List (Option Refusal)
   rows_line q s store = refuse_if (ltb (rows_in store) (rows_needed q s)) 8 (rows_needed q s) ∷ []
@@ -132,7 +134,7 @@ module _ (P : RuleParts) where
   -- marks are counted, 9, and 10, which alone needs the text
   abbrev pub before_marks : RenderArgs RenderChoice → RenderState → List ℕ → List ℕ → List (Option Refusal)
   before_marks q s store marks =
-      rule_line q.to.choice.rule
+      rule_line (P.other_rule q.to.choice.rule) q.to.choice.rule
       ∷ P.render_image_of q.to.choice
       ∷ refuse_at (P.wrong_row q.to.choice store s.row q.to.stop) 11
       ∷ refuse_if (any (render_tests q s store marks)) 12 0

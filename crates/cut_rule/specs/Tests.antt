@@ -20,9 +20,9 @@ differs chosen carried = not (eqb carried 0) && not (eqb carried chosen)
 abbrev pub rule_tests : ℕ → ℕ → List Bool
 rule_tests rule carried = differs rule carried ∷ []
 
--- 20: "a choice outside 1 to 3"
-abbrev pub chosen_tests : ℕ → List Bool
-chosen_tests rule = ltb rule MIN_RULE ∷ ltb MAX_RULE rule ∷ []
+-- 20: "a choice outside 1 to 3", or another than the image asks for
+abbrev pub chosen_tests : Bool → ℕ → List Bool
+chosen_tests other rule = ltb rule MIN_RULE ∷ ltb MAX_RULE rule ∷ other ∷ []
 
 -- ---- layout
 -- all of a state that has not begun is 0

@@ -4,6 +4,9 @@ use Rattle.image.proofs.Numbers.{read_numbers}
 use Rattle.rows.proofs.Table.{words_there}
 use Rattle.widths.proofs.Editions.{editions_hold}
 use Rattle.node_widths.proofs.Summed.{supplied_stay}
+use Rattle.moves.proofs.Moved.{back_after_forward, forward_after_back}
+use Rattle.moves.proofs.Exact.{twenty_one}
+use Rattle.demands.proofs.Archive.{archive_1}
 use Rattle.renderer_rules.proofs.Call.{call_as_rust}
 use Rattle.renderer_rules.proofs.Checked.{fault_of_part}
 use Rattle.renderer_rules.proofs.Holds.{writes_pieces, no_slash_around}
@@ -94,6 +97,10 @@ claims = record {
     saves_1 = saves_1;
     editions_hold = editions_hold;
     supplied_stay = supplied_stay;
+    back_after_forward = back_after_forward;
+    forward_after_back = forward_after_back;
+    twenty_one = twenty_one;
+    archive_1 = archive_1;
   };
   linked = record {
     linked_promises = linked_promises;

@@ -23,7 +23,7 @@ use Rattle.cut_rule.specs.Tests as tests
 use Rattle.cut_rule.specs.Parts as cut
 use Rattle.text.specs.Utf8.{prefix, well_formed, ill_formed}
 use Rattle.widths.specs.Rules.{SUPPLIED}
-use Rattle.whole_run.specs.Parts.{parts_of, formed_line, render_image}
+use Rattle.whole_run.specs.Parts.{other_rule, parts_of, formed_line, render_image}
 use Rattle.whole_run.specs.Demands.{rules_of}
 use Rattle.whole_run.specs.Built.{FileChoice, layout_choice, reference_choice, drawn_due, rows_due, marks_due}
 use Rattle.whole_run.specs.File.{file_rows, file_marks, file_before_rows, file_rows_line, file_before_marks, file_marks_line, file_before_text, file_text_line}
@@ -53,7 +53,7 @@ pub under_if : (ns : List ℕ) (t : Bool) (n p : ℕ) → is_one_of n ns ≡ tru
 under_if ns true n p h = record { of = λ r e. sym (ap (λ (k : ℕ). is_one_of k ns) (same n p r e)) ∙ h }
 under_if ns false n p h = record { of = λ r e. never r e }
 
-under_at : (ns : List ℕ) (o : Option ℕ) (n : ℕ) → is_one_of n ns ≡ true → Under ns (refuse_at o n)
+pub under_at : (ns : List ℕ) (o : Option ℕ) (n : ℕ) → is_one_of n ns ≡ true → Under ns (refuse_at o n)
 under_at ns (Some p) n h = under_if ns true n p h
 under_at ns None n h = record { of = λ r e. never r e }
 
@@ -112,7 +112,7 @@ module _ (s b : List ℕ) where
       let read : Under layout_numbers (read_refusal (read_all s b)) =
       under_before 20 later (read_refusal (read_all s b)) (under_more reader_numbers (12 ∷ 8 ∷ []) (read_refusal (read_all s b)) (read_under s b)) in
       under_first layout_numbers (cut.layout_table (parts_of s b) q z store) (
-        under_if layout_numbers (any (tests.chosen_tests q.choice.rule)) 20 0 refl,
+        under_if layout_numbers (any (tests.chosen_tests (other_rule b q.choice.rule) q.choice.rule)) 20 0 refl,
         (
           read,
           (
@@ -141,7 +141,7 @@ module _ (s b : List ℕ) where
       let needed = cut.marks_for (parts_of s b) q z store in
       let bytes = cut.bytes_needed (parts_of s b) q z store marks in
       under_first render_numbers (cut.render_table (parts_of s b) q z store marks) (
-        under_if render_numbers (any (tests.chosen_tests q.to.choice.rule)) 20 0 refl,
+        under_if render_numbers (any (tests.chosen_tests (other_rule b q.to.choice.rule) q.to.choice.rule)) 20 0 refl,
         (
           image_under q.to.choice.rule,
           (
@@ -165,7 +165,7 @@ module _ (s b : List ℕ) where
   pub before_under : (ns : List ℕ) → is_one_of 20 ns ≡ true → is_one_of 12 ns ≡ true → is_one_of 15 ns ≡ true → Under ns (read_refusal (read_all s b)) → (c : FileChoice)
       → AllUnder ns (file_before_rows s b c)
   before_under ns twenty twelve fifteen read c = (
-    under_if ns (any (tests.chosen_tests c.rule)) 20 0 twenty,
+    under_if ns (any (tests.chosen_tests (other_rule b c.rule) c.rule)) 20 0 twenty,
     (
       read,
       (
@@ -200,14 +200,16 @@ module _ (s b : List ℕ) where
       (under_more reader_numbers (12 ∷ 15 ∷ 8 ∷ 9 ∷ 10 ∷ []) (read_refusal (read_all s b)) (read_under s b)) in
       whole_under file_numbers refl c room (early_under file_numbers refl refl c (before_under file_numbers refl refl refl read c))
 
-  -- in the old mode at 80, with supplied widths, the lines of 20, 12 and 15 compute to none
+  -- in the old mode at 80 the lines of 12 and 15 compute to none
   pub reference_under : (room : ℕ) → Under reference_numbers (file_refusal s b reference_choice room)
   reference_under room =
       let read : Under reference_numbers (read_refusal (read_all s b)) =
-      under_more reader_numbers (8 ∷ 9 ∷ 10 ∷ []) (read_refusal (read_all s b)) (read_under s b) in
+      under_before 20 (reader_numbers ++ (8 ∷ 9 ∷ 10 ∷ [])) (read_refusal (read_all s b))
+      (under_more reader_numbers (8 ∷ 9 ∷ 10 ∷ []) (read_refusal (read_all s b)) (read_under s b)) in
+      let chosen = under_if reference_numbers (any (tests.chosen_tests (other_rule b SUPPLIED) SUPPLIED)) 20 0 refl in
       whole_under reference_numbers refl reference_choice room
       (early_under reference_numbers refl refl reference_choice
-      (under_none reference_numbers, (read, (under_none reference_numbers, (under_none reference_numbers, tt)))))
+      (chosen, (read, (under_none reference_numbers, (under_none reference_numbers, tt)))))
 
 frame_under : (frame : List ℕ) (room : ℕ) → Under frame_numbers (frame_table frame room)
 frame_under frame room =

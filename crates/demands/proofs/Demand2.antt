@@ -12,16 +12,16 @@ use Rattle.acts.specs.Act.{Out}
 use Rattle.refusals.specs.Refusals.{Refusal, unless, first, refuse_if, any}
 use Rattle.refusals.proofs.Groups.{passes_line, passes_others, not_if}
 use Rattle.refusals.proofs.Answers.{accepted_by}
-use Rattle.cut_rule.specs.Limits.{MIN_WIDTH, MAX_WIDTH, MIN_RULE, MAX_RULE}
+use Rattle.cut_rule.specs.Limits.{MIN_WIDTH, MAX_WIDTH}
 use Rattle.cut_rule.specs.Rules.{RenderArgs, LayoutResult}
 use Rattle.cut_rule.specs.Run.{write_front}
 use Rattle.cut_rule.specs.Entries.{render_answer, render_marks, render_output}
 use Rattle.cut_rule.specs.States as states
 use Rattle.cut_rule.specs.Tests as tests
 use Rattle.cut_rule.specs.Parts as cut
-use Rattle.cut_rule.proofs.Table.{LegalRule, LegalWidth, layout_told, render_told}
+use Rattle.cut_rule.proofs.Table.{LegalWidth, layout_told, render_told}
 use Rattle.cut_rule.proofs.Answers.{LaidBy, laid_by, written_by}
-use Rattle.whole_run.specs.Parts.{parts_of}
+use Rattle.whole_run.specs.Parts.{other_rule, parts_of}
 use Rattle.whole_run.specs.Demands.{rules_of, Gives, laid_to, stopping_at, closing_at}
 use Rattle.whole_run.specs.Built.{FileChoice, layout_choice, declared, rows_due, drawn_due}
 use Rattle.whole_run.specs.File.{mode_line, file_before_rows, laid_refusal, refusal_in, file_refusal, FileResult, file_result, store_left}
@@ -81,7 +81,7 @@ closed_keeping s b store rule t left store2 p =
     let twelve = any (cut.layout_tests (parts_of s b) q z store) in
     let eight = cut.rows_line (parts_of s b) q z store in
     let h = layout_told (parts_of s b) q z store w.passes in
-    let reads = passes_others (cut.rule_line rule) (read_refusal (read_all s b) ∷ refuse_if twelve 12 0 ∷ eight) w.passes in
+    let reads = passes_others (cut.rule_line (other_rule b rule) rule) (read_refusal (read_all s b) ∷ refuse_if twelve 12 0 ∷ eight) w.passes in
     let later = passes_others (read_refusal (read_all s b)) (refuse_if twelve 12 0 ∷ eight) reads in
     let tests = not_if twelve 12 0 (passes_line (refuse_if twelve 12 0) eight later) in (
       laid_as s b store _ t left store2 p _ ((due_is_fmt_parsed (read_all s b) s b).closed_in q.choice),
@@ -97,10 +97,6 @@ mode_passes c h = rw (le-ltb states.NEW_MODE c.mode h)
 width_passes : (width : ℕ) → LegalWidth width → refuse_if (any (tests.width_tests width 0)) 15 0 ≡ None
 width_passes width h = rw (le-ltb width MIN_WIDTH h.least, le-ltb MAX_WIDTH width h.most)
 
--- and 20 no legal rule
-rule_passes : (rule : ℕ) → LegalRule rule → cut.rule_line rule ≡ None
-rule_passes rule h = rw (le-ltb rule MIN_RULE h.least, le-ltb MAX_RULE rule h.most)
-
 rendered : RenderedDue
 rendered s b store mode rule t left store2 p width marks out u n store3 marks2 out2 q =
     let R = rules_of s b in
@@ -110,9 +106,16 @@ rendered s b store mode rule t left store2 p width marks out u n store3 marks2 o
     let a = written_by R (R.render_refusal (to t.row) z store2 marks) (render.to_state u) n.0 _ _ q.answer in
     let legal = width_passes width (render_told (parts_of s b) (to t.row) z store2 marks a.passes).checked.width.legal in
     let before = laid s b store (record { stop = length (declared s b); close = true; mode = mode; rule = rule }) t left store2 p in
-    let fits = layout_told (parts_of s b) (closing_at (layout_choice c) (length (declared s b))) (layout.to_state fresh_layout) store before.passes in
+    let all = closing_at (layout_choice c) (length (declared s b)) in
+    let fits = layout_told (parts_of s b) all (layout.to_state fresh_layout) store before.passes in
     let moded = mode_passes c fits.fits.mode.known in
-    let ruled = rule_passes rule fits.legal in
+    let z0 = layout.to_state fresh_layout in
+    let ruled =
+    passes_line (cut.rule_line (other_rule b rule) rule)
+    (read_refusal (read_all s b)
+    ∷ refuse_if (any (cut.layout_tests (parts_of s b) all z0 store)) 12 0
+    ∷ cut.rows_line (parts_of s b) all z0 store)
+    before.passes in
     let passed : first (file_before_rows s b c) ≡ None = λ i. first (ruled i ∷ fits.image i ∷ moded i ∷ legal i ∷ []) in
     let w = laid_by R (laid_refusal s b c (tests.rows_in store)) (layout.to_state t) left (state_due s b c) _
     (p.answer ∙ layout_answer_due s b c passed store) in

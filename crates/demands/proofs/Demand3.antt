@@ -18,7 +18,7 @@ use Rattle.refusals.specs.Refusals.{any, refuse_if}
 use Rattle.refusals.proofs.Groups.{passes_left, passes_line, passes_others, not_if}
 use Rattle.cut_rule.specs.States as states
 use Rattle.cut_rule.specs.Parts.{rule_line, layout_tests, before_rows, rows_line, laid_of}
-use Rattle.whole_run.specs.Parts.{listed, parts_of}
+use Rattle.whole_run.specs.Parts.{other_rule, listed, parts_of}
 use Rattle.whole_run.specs.Demands.{rules_of}
 use Rattle.whole_run.specs.Foot.{HoldsAll}
 use Rattle.whole_run.proofs.Demands.{rules_cut}
@@ -117,7 +117,7 @@ closing_leaves_none s b state args store t left store2 p closes new =
     let laid_out_lem = laid_by (rules_of s b) ((rules_of s b).layout_refusal q z store) (layout.to_state t) left given.state given.left p.answer in
     let lines = passes_left (before_rows P q z store) (rows_line P q z store) laid_out_lem.passes in
     let twelve = refuse_if (any (layout_tests P q z store)) 12 0 in
-    let reads = passes_others (rule_line args.rule) (P.layout_image ∷ twelve ∷ []) lines in
+    let reads = passes_others (rule_line (other_rule b args.rule) args.rule) (P.layout_image ∷ twelve ∷ []) lines in
     let read : read_refusal (read_all s b) ≡ None = passes_line P.layout_image (twelve ∷ []) reads in
     let tests : any (layout_tests P q z store) ≡ false =
     not_if (any (layout_tests P q z store)) 12 0 (passes_line twelve [] (passes_others P.layout_image (twelve ∷ []) reads))

@@ -66,6 +66,9 @@ use Rattle.demands.proofs.Demand2.{demand_2}
 use Rattle.demands.proofs.Demand3.{made_run, demand_3, calls_hold_all}
 use Rattle.demands.proofs.Generator.{write_under, list_under, generator_lists}
 use Rattle.demands.proofs.Saves.{batch_under}
+use Rattle.moves.specs.Moves.{forward_image, back_image, forward_refusal, back_refusal}
+use Rattle.demands.specs.Archive.{move_numbers}
+use Rattle.demands.proofs.Archive.{forward_under, back_under}
 
 -- ---- numbers and answers
 -- an entry's number is not 0
@@ -211,8 +214,8 @@ wrote_reads n = record { refusal = λ r rest. refusal_from _ _ r rest; given = �
 columns_reads : (n : ℕ) → Reads (answer_of (λ (c : Columns). c.0)) columns_from told_columns n
 columns_reads n = record { refusal = λ r rest. refusal_from _ _ r rest; given = λ rest. refl }
 
-columns_under : (rule : ℕ) → Under columns_numbers (rule_line rule)
-columns_under rule = under_if columns_numbers (any (chosen_tests rule)) 20 0 refl
+columns_under : (rule : ℕ) → Under columns_numbers (rule_line false rule)
+columns_under rule = under_if columns_numbers (any (chosen_tests false rule)) 20 0 refl
 
 batch_reads : (a : BatchResult) → Reads batched_answer batch_from told_batch a
 batch_reads a = record { refusal = λ r rest. refusal_from _ _ r rest; given = λ rest. refl }
@@ -321,8 +324,30 @@ linked_promises = record {
       };
   columns =
       λ text rule supplied out out2 h e.
-      read_back (answer_of (λ (c : Columns). c.0)) columns_from told_columns columns_numbers (rule_line rule) (columns_by rule supplied text) out out2
+      read_back (answer_of (λ (c : Columns). c.0)) columns_from told_columns columns_numbers (rule_line false rule) (columns_by rule supplied text) out out2
       refl refl (columns_under rule) (omega arith) (omega arith) (columns_reads (columns_by rule supplied text)) e;
+  forward =
+      λ s b output out output2 out2 h p.
+      let o = forward_refusal s b (length output) in (
+        read_back (answer_of (λ (n : ℕ). n)) wrote_from told_bytes move_numbers o (length (forward_image s b)) out out2 refl refl
+            (forward_under s b (length output))
+            (omega arith)
+            (omega arith)
+            (wrote_reads (length (forward_image s b)))
+            p.1,
+        p.0,
+      );
+  back =
+      λ s b output out output2 out2 h p.
+      let o = back_refusal s b (length output) in (
+        read_back (answer_of (λ (n : ℕ). n)) wrote_from told_bytes move_numbers o (length (back_image s b)) out out2 refl refl
+            (back_under s b (length output))
+            (omega arith)
+            (omega arith)
+            (wrote_reads (length (back_image s b)))
+            p.1,
+        p.0,
+      );
 }
 
 -- ---- demand 1
@@ -389,9 +414,23 @@ linked_1 = record {
       p.told_as;
   columns =
       λ text rule supplied out out2 h e.
-      told_first told_columns columns_numbers (rule_line rule) (columns_by rule supplied text) out out2 _ (columns_under rule) (omega arith) (omega arith)
+      told_first told_columns columns_numbers (rule_line false rule) (columns_by rule supplied text) out out2 _ (columns_under rule) (omega arith) (omega arith)
       (λ r f. tt)
       e;
+  forward =
+      λ s b output out output2 out2 h p.
+      told_first told_bytes move_numbers (forward_refusal s b (length output)) (length (forward_image s b)) out out2 _ (forward_under s b (length output))
+      (omega arith)
+      (omega arith)
+      (λ r f. p.0 ∙ left_same _ r output _ f)
+      p.1;
+  back =
+      λ s b output out output2 out2 h p.
+      told_first told_bytes move_numbers (back_refusal s b (length output)) (length (back_image s b)) out out2 _ (back_under s b (length output))
+      (omega arith)
+      (omega arith)
+      (λ r f. p.0 ∙ left_same _ r output _ f)
+      p.1;
 }
 
 -- ---- demand 2: where 0 is first, the answer is the accepted one

@@ -8,6 +8,9 @@ use Rattle.acts.specs.Act.{Given, St}
 use Rattle.renderer_rules.specs.Call.{CallAsRust}
 use Rattle.widths.specs.Editions.{EditionsHold}
 use Rattle.node_widths.specs.Summed.{SuppliedStay}
+use Rattle.moves.specs.Returns.{BackAfterForward, ForwardAfterBack}
+use Rattle.moves.specs.Exact.{TwentyOne}
+use Rattle.demands.specs.Archive.{Archive1}
 use Rattle.renderer_rules.specs.Check.{FaultOfPart}
 use Rattle.renderer_rules.specs.Holds.{WritesPieces, NoSlashAround}
 use Rattle.layout_facts.specs.Accepted.{FewRows, WordsDue}
@@ -121,6 +124,12 @@ pub record TheRequests : Type 0 where
   -- "Supplied widths stay equal to the Rust"
   pub editions_hold : EditionsHold
   pub supplied_stay : SuppliedStay
+  -- 9: "Either move after the other, given room, returns the identical bytes"; 21 is "the first stored width that 16.0 doesn't give or, going
+  -- back, one over 65,535"
+  pub back_after_forward : BackAfterForward
+  pub forward_after_back : ForwardAfterBack
+  pub twenty_one : TwentyOne
+  pub archive_1 : Archive1
 
 -- all of it of the functions that other languages link
 pub record TheLinked : Type 0 where

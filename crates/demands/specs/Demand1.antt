@@ -43,9 +43,9 @@ render_numbers = 20 ∷ 1 ∷ 2 ∷ 3 ∷ 11 ∷ 12 ∷ 15 ∷ 9 ∷ 10 ∷ []
 abbrev pub file_numbers : List ℕ
 file_numbers = 20 ∷ (reader_numbers ++ (12 ∷ 15 ∷ 8 ∷ 9 ∷ 10 ∷ []))
 
--- the same in the old mode at 80 with supplied widths, which neither 12 nor 15 nor 20 refuses
+-- the same in the old mode at 80 with supplied widths, which neither 12 nor 15 refuses, and 20 only of version 2
 abbrev pub reference_numbers : List ℕ
-reference_numbers = reader_numbers ++ (8 ∷ 9 ∷ 10 ∷ [])
+reference_numbers = 20 ∷ (reader_numbers ++ (8 ∷ 9 ∷ 10 ∷ []))
 
 -- the program's frame: 13, "tested before all else"
 abbrev pub frame_numbers : List ℕ

@@ -1,8 +1,9 @@
 -- The functions that other languages link, `rrufthim_check`, `rrufthim_layout`, `rrufthim_render`, `rrufthim_format`, `rrufthim_count`,
--- `rrufthim_write`, `rrufthim_steps`, `rrufthim_batch` and `rrufthim_columns`. Their answers and states are arrays of so many numbers. What the numbers of an
+-- `rrufthim_write`, `rrufthim_steps`, `rrufthim_batch`, `rrufthim_columns`, `rrufthim_forward` and
+-- `rrufthim_back`. Their answers and states are arrays of so many numbers. What the numbers of an
 -- answer tell is an answer of the function in Rattle, and that function's promise holds of it (`LinkedPromises`). So the three demands and the
 -- sentences of requests 4, 5 and 7 hold of what is linked. proofs/Linked.antt proves it.
-use Rattle.std.specs.Prelude.{◌≡◌, true, cond, List, [], ◌∷◌, ◌++◌, map, ℕ, eqb, length, get_or, take, drop, replicate, Option}
+use Rattle.std.specs.Prelude.{◌≡◌, true, false, cond, List, [], ◌∷◌, ◌++◌, map, ℕ, eqb, length, get_or, take, drop, replicate, Option}
 use Rattle.std.specs.Prelude.{None, Some, Result, Ok, Err}
 use Rattle.refusals.specs.Refusals.{Refusal, is_one_of}
 use Rattle.refusals.specs.declared.Reason.{Reason}
@@ -48,6 +49,10 @@ use Rattle.exports.specs.Calls.{ChecksFile, CountsFile, Lays, Renders, FormatsFi
 use Rattle.exports.specs.Generator.{WritesImage, ListsSteps}
 use Rattle.exports.specs.Saves.{FormatsBatch}
 use Rattle.exports.specs.Measures.{MeasuresText}
+use Rattle.exports.specs.Archive as archive
+use Rattle.moves.specs.Moves.{forward_refusal, back_refusal}
+use Rattle.moves.specs.Moved.{MovesForward, MovesBack}
+use Rattle.demands.specs.Archive.{move_numbers}
 use Rattle.demands.specs.Demand1.{layout_numbers, render_numbers, file_numbers, count_numbers}
 use Rattle.demands.specs.Demand2.{LaidOutAs, DrawnAs, FileAs}
 use Rattle.demands.specs.Demand3.{Caller, Made, after_made, call_made, answer_made, held, HeldAsDue}
@@ -82,7 +87,8 @@ reason_of n =
     (cond (eqb n 17) reason.ImageNeeds
     (cond (eqb n 18) reason.Frames
     (cond (eqb n 19) reason.BatchNeeds
-    reason.Rule))))))))))))))))))
+    (cond (eqb n 20) reason.Rule
+    reason.StoredWidth)))))))))))))))))))
 
 -- an answer, by what it tells where it begins with 0
 abbrev pub answer_from : {A : Type 0} → A → List ℕ → Result A Refused
@@ -136,6 +142,10 @@ pub record LinkedPromises : Type 0 where
       → Batches f (to_choice (file_choice choice)) table output (batch_from out2) table2 output2
   pub columns : (text : List ℕ) (rule supplied : ℕ) (out out2 : List ℕ) → length out ≡ 2 → MeasuresText text rule supplied out out2
       → answer_of (λ (c : Columns). c.0) (columns_from out2) ≡ columns_answer rule supplied text
+  pub forward : (s b output out output2 out2 : List ℕ) → length out ≡ 2 → archive.MovesForward s b output out output2 out2
+      → MovesForward s b output (wrote_from out2) output2
+  pub back : (s b output out output2 out2 : List ℕ) → length out ≡ 2 → archive.MovesBack s b output out output2 out2
+      → MovesBack s b output (wrote_from out2) output2
 
 -- ---- demand 1
 -- the columns of a text: 20 alone
@@ -178,7 +188,11 @@ pub record Linked1 : Type 0 where
   pub batch : (f choice table output out table2 output2 out2 : List ℕ) → length out ≡ 3 → FormatsBatch f choice table output out table2 output2 out2
       → Told batch_numbers (batch_refusal (to_choice (file_choice choice)) f (length table) (length output)) out2 ((table2 ≡ table) × (output2 ≡ output))
   pub columns : (text : List ℕ) (rule supplied : ℕ) (out out2 : List ℕ) → length out ≡ 2 → MeasuresText text rule supplied out out2
-      → Told columns_numbers (rule_line rule) out2 (Unit {0})
+      → Told columns_numbers (rule_line false rule) out2 (Unit {0})
+  pub forward : (s b output out output2 out2 : List ℕ) → length out ≡ 2 → archive.MovesForward s b output out output2 out2
+      → Told move_numbers (forward_refusal s b (length output)) out2 (output2 ≡ output)
+  pub back : (s b output out output2 out2 : List ℕ) → length out ≡ 2 → archive.MovesBack s b output out output2 out2
+      → Told move_numbers (back_refusal s b (length output)) out2 (output2 ≡ output)
 
 -- ---- demand 2
 -- "Fresh is all 0"

@@ -4,3 +4,4 @@ pub mod Calls
 pub mod Generator
 pub mod Saves
 pub mod Measures
+pub mod Archive

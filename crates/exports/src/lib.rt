@@ -4,6 +4,7 @@
 // kept: the C interface: C hands over each buffer and array as a parameter of its own.
 #![tactic(auto)]
 
+pub mod archive;
 pub mod generator;
 pub mod measures;
 mod numbers;

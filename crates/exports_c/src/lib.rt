@@ -11,6 +11,7 @@ ghost use Rattle.exports.specs.Calls.{ChecksFile, CountsFile, Lays, Renders, For
 ghost use Rattle.exports.specs.Generator.{WritesImage, ListsSteps};
 ghost use Rattle.exports.specs.Saves.{FormatsBatch};
 ghost use Rattle.exports.specs.Measures.{MeasuresText};
+ghost use Rattle.exports.specs.Archive.{MovesForward, MovesBack};
 
 #[unsafe(no_mangle)]
 pub extern "C" fn rrufthim_check_s2(source: &[u8], image: &[u8], out: &mut [u64; 4])
@@ -118,4 +119,28 @@ pub extern "C" fn rrufthim_columns_s2(text: &[u8], rule: u64, supplied: u64, out
     ensures { MeasuresText text.now rule supplied out.old out.new }
 {
     exports::measures::rrufthim_columns_s2(text, rule, supplied, out);
+}
+
+#[unsafe(no_mangle)]
+pub extern "C" fn rrufthim_forward_s2(
+    source: &[u8],
+    image: &[u8],
+    output: &mut [u8],
+    out: &mut [u64; 2],
+)
+    ensures { MovesForward source.now image.now output.old out.old output.new out.new }
+{
+    exports::archive::rrufthim_forward_s2(source, image, output, out);
+}
+
+#[unsafe(no_mangle)]
+pub extern "C" fn rrufthim_back_s2(
+    source: &[u8],
+    image: &[u8],
+    output: &mut [u8],
+    out: &mut [u64; 2],
+)
+    ensures { MovesBack source.now image.now output.old out.old output.new out.new }
+{
+    exports::archive::rrufthim_back_s2(source, image, output, out);
 }

@@ -9,7 +9,7 @@ use native.Mathlib.Nat.{add-zero}
 use native.Mathlib.Omega.{arith}
 use lib.ListN.{length, take, drop, replicate, length-replicate}
 use lib.Seq.{take_at}
-use Rattle.image.specs.Read.{read_all, outcome, Accepts}
+use Rattle.image.specs.Read.{read_all, read_refusal, outcome, Accepts}
 use Rattle.image.specs.declared.Document.{Document}
 use Rattle.image.proofs.Answers.{read_refusal_lem}
 use Rattle.rows.specs.Places.{PLACES}
@@ -19,7 +19,11 @@ use Rattle.refusals.specs.Answers.{Answer, refused, accepted, answer_by, refusal
 use Rattle.refusals.proofs.Answers.{refused_by, AcceptedBy, accepted_by}
 use Rattle.cut_rule.specs.Run.{write_front}
 use Rattle.whole_run.specs.Built.{reference_choice, built, drawn_due, column_due}
-use Rattle.whole_run.specs.File.{file_rows, file_marks, refusal_in, file_refusal, FileResult, file_result, file_answer}
+use Rattle.widths.specs.Rules.{SUPPLIED}
+use Rattle.cut_rule.specs.Parts.{rule_line}
+use Rattle.whole_run.specs.Parts.{other_rule}
+use Rattle.layout_call.specs.Steps.{RuleFits}
+use Rattle.whole_run.specs.File.{file_before_rows, file_rows, file_marks, refusal_in, file_refusal, FileResult, file_result, file_answer}
 use Rattle.whole_run.proofs.FileTable.{stops_laid, stops_whole}
 use Rattle.layout_call.proofs.Standing.{stands, comments_count}
 use Rattle.file.specs.Whole.{RunsFile, to_result, formatted_answer, formatted_of, widest_of}
@@ -75,13 +79,22 @@ module _ (s b : List ℕ) where
   file_refused : (t : Tallies) (r : Refused) → file_refusal s b reference_choice FILE_OUTPUT ≡ Some (refusal r) → counted_answer (Err r) ≡ count_answer s b t
   file_refused t r e = sym (ap (λ (x : Option Refusal). answer_by (first (x ∷ tally_refusal t ∷ [])) (count_result (figures_of s b) t)) e)
 
-  -- 1 to 7
-  pub check_refused : (t : Tallies) (w : Refused) → outcome (read_all s b) ≡ refused (refusal w) → counted_answer (Err w) ≡ count_answer s b t
-  check_refused t w e =
+  -- refused by the first lines
+  stops_first : (t : Tallies) (w : Refused) → first (file_before_rows s b reference_choice) ≡ Some (refusal w) → counted_answer (Err w) ≡ count_answer s b t
+  stops_first t w e =
       file_refused t w
-      (stops_whole s b reference_choice (refusal w) file_rows file_marks FILE_OUTPUT
-      (stops_laid s b reference_choice (refusal w) file_rows
-      (ap (λ (x : Option Refusal). first (x ∷ [])) (sym (read_refusal_lem (read_all s b)) ∙ ap refusal_of e))))
+      (stops_whole s b reference_choice (refusal w) file_rows file_marks FILE_OUTPUT (stops_laid s b reference_choice (refusal w) file_rows e))
+
+  -- 20
+  pub rule_refused : (t : Tallies) (w : Refused) → Some (refusal w) ≡ rule_line (other_rule b SUPPLIED) SUPPLIED → counted_answer (Err w) ≡ count_answer s b t
+  rule_refused t w e = stops_first t w (ap (λ (x : Option Refusal). first (x ∷ read_refusal (read_all s b) ∷ [])) (sym e))
+
+  -- 1 to 7
+  pub check_refused : RuleFits s b SUPPLIED → (t : Tallies) (w : Refused) → outcome (read_all s b) ≡ refused (refusal w)
+      → counted_answer (Err w) ≡ count_answer s b t
+  check_refused ruled t w e =
+      let unread : read_refusal (read_all s b) ≡ Some (refusal w) = sym (read_refusal_lem (read_all s b)) ∙ ap refusal_of e in
+      stops_first t w (λ i. first (ruled i ∷ unread i ∷ []))
 
   -- ---- the run in cleared rows and marks
   module _ (store marks out : List ℕ) (rowed : store ≡ replicate (file_rows * PLACES) 0) (marked : marks ≡ replicate file_marks 0)

@@ -4,8 +4,12 @@
 ghost use Rattle.std.specs.Prelude.{◌≡◌, length};
 ghost use Rattle.tallies.specs.Tallies.{Within, tally_refusal};
 ghost use Rattle.refusals.specs.Answers.{answer_by};
+ghost use Rattle.widths.specs.Rules.{SUPPLIED};
+ghost use Rattle.layout_call.specs.Steps.{RuleFits};
+ghost use Rattle.layout_call.specs.ByFile.{of_file};
 ghost use Rattle.figures.specs.Figures.{FILE_OUTPUT, occurs, count_result, count_answer, counted_answer, Counts};
 
+use choices::rule_chosen;
 use file::{REFERENCE_CHOICE, marks, rows, run_file};
 use layout_call::accepted::Accepted;
 use refusals::{Reason, Refused};
@@ -62,6 +66,7 @@ fn count_figures(t: Tallies, f: Figures) -> Result<Counted, Refused>
 
 // Counts a file that is accepted. The marks past those that its rows need stay cleared, so that all are looked at.
 fn count_accepted(file: Accepted<'_>, t: Tallies) -> Result<Counted, Refused>
+    requires { of_file RuleFits file SUPPLIED }
     ensures { counted_answer result ≡ count_answer file.entry.parsed.source.now file.entry.parsed.image.now t }
 {
     let mut store = rows();
@@ -85,5 +90,6 @@ fn count_accepted(file: Accepted<'_>, t: Tallies) -> Result<Counted, Refused>
 pub fn count_file(source: &[u8], image: &[u8], t: Tallies) -> Result<Counted, Refused>
     ensures { Counts source.now image.now t result }
 {
+    rule_chosen(image, REFERENCE_CHOICE.rule)?;
     count_accepted(Accepted::check(source, image)?, t)
 }

@@ -25,7 +25,7 @@ use Rattle.cut_rule.specs.Rules as rules
 use Rattle.cut_rule.specs.States.{layout_fresh, render_fresh}
 use Rattle.cut_rule.specs.Parts.{with_cleared, rule_line, width_line, before_marks}
 use Rattle.cut_rule.proofs.Answers.{LaidBy, laid_by, written_by}
-use Rattle.whole_run.specs.Parts.{parts_of, widest_drawn}
+use Rattle.whole_run.specs.Parts.{other_rule, parts_of, widest_drawn}
 use Rattle.whole_run.specs.Built as built_by
 use Rattle.whole_run.specs.Built.{FileChoice, layout_choice, render_choice, declared, built, rows_due, drawn_due, column_due}
 use Rattle.whole_run.specs.Demands.{rules_of, closing_at}
@@ -77,18 +77,18 @@ module _ (s b : List ℕ) (c : FileChoice) where
       }
 
   -- 20
-  pub rule_refused : (out : List ℕ) (r : Refused) → Some (refusal r) ≡ rule_line c.rule → Formats s b c out (Err r) out
+  pub rule_refused : (out : List ℕ) (r : Refused) → Some (refusal r) ≡ rule_line (other_rule b c.rule) c.rule → Formats s b c out (Err r) out
   rule_refused out r e =
       stops_first out r (ap (λ (x : Option Refusal). first (x ∷ read_refusal (read_all s b) ∷ mode_line c ∷ width_legal ∷ [])) (sym e))
 
   -- 1 to 7
-  pub check_refused : rule_line c.rule ≡ None → (out : List ℕ) (r : Refused) → outcome (read_all s b) ≡ refused (refusal r) → Formats s b c out (Err r) out
+  pub check_refused : rule_line (other_rule b c.rule) c.rule ≡ None → (out : List ℕ) (r : Refused) → outcome (read_all s b) ≡ refused (refusal r) → Formats s b c out (Err r) out
   check_refused ruled out r e =
       let unread : read_refusal (read_all s b) ≡ Some (refusal r) = sym (read_refusal_lem (read_all s b)) ∙ ap refusal_of e in
       stops_first out r (λ i. first (ruled i ∷ unread i ∷ mode_line c ∷ width_legal ∷ []))
 
   -- ---- then what is chosen, line by line
-  module _ {d : Document} (a : Accepts s b d) (ruled : rule_line c.rule ≡ None) where
+  module _ {d : Document} (a : Accepts s b d) (ruled : rule_line (other_rule b c.rule) c.rule ≡ None) where
     read : read_refusal (read_all s b) ≡ None
     read = sym (read_refusal_lem (read_all s b)) ∙ ap refusal_of a.answer
 

@@ -3,10 +3,11 @@
 
 pub mod reply;
 
-ghost use Rattle.std.specs.Prelude.{◌≡◌, ◌*◌, None, replicate};
+ghost use Rattle.std.specs.Prelude.{◌≡◌, ◌*◌, replicate};
 ghost use Rattle.rows.specs.Places.{PLACES};
 ghost use Rattle.cut_rule.specs.States.{render_fresh};
-ghost use Rattle.cut_rule.specs.Parts.{rule_line};
+ghost use Rattle.layout_call.specs.Steps.{RuleFits};
+ghost use Rattle.layout_call.specs.ByFile.{of_file};
 ghost use Rattle.whole_run.specs.File.{file_rows, file_marks};
 ghost use Rattle.render_call.specs.Calls.{to_state as rendered_state};
 ghost use Rattle.file.specs.Whole.{to_choice, RunsFile, Formats, FormatsFrame};
@@ -99,7 +100,7 @@ pub fn run_file(
     out: &mut [u8],
     choice: FileChoice,
 ) -> Result<Run, Refused>
-    requires { rule_line choice.rule ≡ None }
+    requires { of_file RuleFits file choice.rule }
     ensures { RunsFile file.entry.parsed.source.now file.entry.parsed.image.now (to_choice choice)
         store.old marks.old out.old result store.new marks.new out.new }
 {
@@ -141,7 +142,7 @@ pub fn run_file(
 
 // A file that is accepted, with rows and marks of its own: the rows of a file that 9 or 10 refuses can't be taken back out of a lent store.
 fn format_accepted(file: Accepted<'_>, out: &mut [u8], choice: FileChoice) -> Result<Text, Refused>
-    requires { rule_line choice.rule ≡ None }
+    requires { of_file RuleFits file choice.rule }
     ensures { Formats file.entry.parsed.source.now file.entry.parsed.image.now (to_choice choice) out.old result out.new }
 {
     let mut store = rows();
@@ -159,7 +160,7 @@ pub fn format_file(
 ) -> Result<Text, Refused>
     ensures { Formats source.now image.now (to_choice choice) out.old result out.new }
 {
-    rule_chosen(choice.rule)?;
+    rule_chosen(image, choice.rule)?;
     let file = Accepted::check(source, image)?;
     format_accepted(file, out, choice)
 }

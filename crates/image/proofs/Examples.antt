@@ -44,7 +44,7 @@ shebang =
     0x00 ∷ 0x00 ∷ 0x00 ∷ 0x00 ∷ 0x00 ∷ 0x00 ∷ 0x00 ∷ 0x04 ∷ 0x23 ∷ 0x21 ∷ 0x2F ∷ 0x78 ∷ []
 
 worked : List Example
-worked = reads [] (0x01 ∷ shebang) (right 0 7) ∷ reads [] (0x02 ∷ shebang) (wrong 3 0) ∷ []
+worked = reads [] (0x01 ∷ shebang) (right 0 7) ∷ reads [] (0x02 ∷ shebang) (right 0 7) ∷ reads [] (0x03 ∷ shebang) (wrong 3 0) ∷ []
 
 -- ---- the parts of the images below
 image : List ℕ → List ℕ

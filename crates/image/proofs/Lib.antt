@@ -16,3 +16,4 @@ pub mod Standing
 pub mod Examples
 pub mod Numbers
 pub mod Unpacked
+pub mod OneVersion

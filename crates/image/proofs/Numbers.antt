@@ -93,5 +93,9 @@ all_known : (may : ℕ → Bool) (o : Bool) (s b : List ℕ) → Known (read_wit
 unfolding read_with
 all_known may o s b = pick (not (source_fits s)) _ _ refl (pick (not (well_formed s)) _ _ refl (image_known may o s b))
 
+-- whatever versions may be read, and whether comments are in order or not
+pub numbers_with : (may : ℕ → Bool) (o : Bool) (s b : List ℕ) (n p : ℕ) → read_with may o s b ≡ bad n p → is_one_of n reader_numbers ≡ true
+numbers_with may o s b n p e = rw e at (all_known may o s b)
+
 pub read_numbers : ReadNumbers
-read_numbers s b n p e = rw e at (all_known any_version false s b)
+read_numbers = numbers_with any_version false

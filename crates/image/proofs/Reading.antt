@@ -161,7 +161,6 @@ rest_next one n row stop (bad k p) q e = let z : ◌≡◌ {A = ℕ} 0 1 = cc in
 pub record Here (r h : Reader) : Type 0 where
   pub source : h.source.now ≡ r.source.now
   pub image : h.image.now ≡ r.image.now
-  pub width : h.width ≡ r.width
   pub left : h.left ≡ r.left
   pub end : h.end ≡ r.end
 

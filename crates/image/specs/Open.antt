@@ -5,7 +5,7 @@ use Rattle.text.specs.Newlines.{is_range}
 use Rattle.image.specs.Bytes.{be32}
 use Rattle.image.specs.Grammar.{row_under_of}
 use Rattle.image.specs.Places.{row_number}
-use Rattle.image.specs.Read.{Read, got, bad, Head, stop_at, opens, record_at, child_at, children_at, step_of}
+use Rattle.image.specs.Read.{Read, got, bad, Head, width_bytes, stop_at, opens, record_at, child_at, children_at, step_of}
 use Rattle.image.specs.declared.records.Opened.{Opened}
 use Rattle.image.specs.declared.reader.Reader.{Reader}
 
@@ -25,7 +25,7 @@ head_of p (bad n q) = refused (record { number = n; place = q })
 
 -- the head of the record, at place p
 abbrev pub head_due : Reader → ℕ → Answer HeadRead
-head_due r p = head_of p (opens r.source.now r.image.now r.width r.left p r.at r.end)
+head_due r p = head_of p (opens r.source.now r.image.now (width_bytes r.image.now) r.left p r.at r.end)
 
 -- where the record stops, whose shape is right: 5 and 6 of it
 abbrev pub stop_of : List ℕ → List ℕ → ℕ → ℕ → Answer ℕ
@@ -39,13 +39,13 @@ stop_due r = stop_of r.source.now r.image.now r.left r.at
 
 -- where the reading goes on behind the record, at place p
 abbrev pub record_due : Reader → ℕ → Answer ℕ
-record_due r p = step_of (record_at r.source.now r.image.now r.width r.left p r.at r.end)
+record_due r p = step_of (record_at r.source.now r.image.now (width_bytes r.image.now) r.left p r.at r.end)
 
 -- behind the child at place p
 abbrev pub child_due : Reader → ℕ → Answer ℕ
-child_due r p = step_of (child_at r.source.now r.image.now r.width r.left p r.at r.end)
+child_due r p = step_of (child_at r.source.now r.image.now (width_bytes r.image.now) r.left p r.at r.end)
 
 -- behind the children at the places of a row
 abbrev pub children_due : Reader → ℕ → Answer ℕ
 children_due r row =
-    step_of (children_at (child_at r.source.now r.image.now r.width r.left) (suc (length r.image.now)) row r.at r.end)
+    step_of (children_at (child_at r.source.now r.image.now (width_bytes r.image.now) r.left) (suc (length r.image.now)) row r.at r.end)

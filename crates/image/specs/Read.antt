@@ -68,9 +68,9 @@ stored_width b at = cond (eqb (version b) 1) (be16 b (at + 13)) 0
 unfoldable pub header : List ℕ → Bool
 header b = leb 5 (length b) && (eqb (version b) 1 || eqb (version b) 2) && eqb (5 + be32 b 1) (length b) && leb (be32 b 1) MAX_BODY
 
--- the versions that an entry reads, where it names none: 1
+-- the versions that an entry reads, where it names none: "Version byte 2 is now accepted"
 abbrev pub any_version : ℕ → Bool
-any_version = eqb 1
+any_version v = eqb v 1 || eqb v 2
 
 -- no refusal 3, where the version must be one that may be read
 abbrev pub header_fits : (ℕ → Bool) → List ℕ → Bool

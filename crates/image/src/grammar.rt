@@ -5,8 +5,10 @@ ghost use Rattle.image.specs.Bytes.{part};
 ghost use Rattle.image.specs.Grammar.{row_of, row_under_of, kind_fits_of, top_byte, payload_fits, first_child, is_optional, bare, after, complete};
 ghost use Rattle.image.specs.KindNumbers.{kind_number};
 ghost use Rattle.image.specs.Places.{due_number, place_number, row_number};
+ghost use Rattle.image.specs.Read.{width_bytes};
 
 use crate::kinds::Kind;
+use crate::width::width_bytes;
 use Place::{Many, One, Optional};
 
 // What may stand where a child is due: a record of one kind, or of one of several.
@@ -269,20 +271,14 @@ pub fn is_text(image: &[u8], from: usize, to: usize) -> bool
 }
 
 // Whether what follows the span, from `from` to `stop`, starts with a payload right for a record of this kind that stands
-// there; a text's width has `width` bytes.
+// there.
 #[tactic(auto, unfolding(crate::specs::Grammar::payload_fits))]
-pub(crate) fn payload_fits(
-    image: &[u8],
-    width: usize,
-    due: Due,
-    kind: Kind,
-    from: usize,
-    stop: usize,
-) -> bool
-    requires { (from ≤ stop) × (stop ≤ length image.now) }
-    ensures { result ≡ payload_fits image.now width (due_number due) (kind_number kind) from stop }
+pub(crate) fn payload_fits(image: &[u8], due: Due, kind: Kind, from: usize, stop: usize) -> bool
+    requires { (from ≤ stop) × (stop ≤ length image.now) × (0 < length image.now) }
+    ensures { result ≡ payload_fits image.now (width_bytes image.now) (due_number due) (kind_number kind) from stop }
 {
     if kind.is_text() {
+        let width = width_bytes(image);
         return width <= stop - from && is_text(image, from + width, stop);
     }
     if kind.has_byte() {

@@ -12,7 +12,7 @@ pub mod sizes;
 pub mod width;
 
 ghost use Rattle.std.specs.Prelude.{◌≡◌, false, ◌≤◌, length};
-ghost use Rattle.image.specs.Read.{any_version, width_bytes, source_fits, header_fits, read_tree, read_image, outcome, Checks};
+ghost use Rattle.image.specs.Read.{any_version, width_bytes, source_fits, header_fits, read_tree, read_image, read_version, outcome, Checks};
 ghost use Rattle.refusals.specs.Reasons.{answer_of};
 
 use bytes::{num16, num32};
@@ -22,7 +22,6 @@ use limits::{MAX_BODY, MAX_RECORDS_DEEP, MAX_SOURCE};
 use reader::Reader;
 use refusals::{Reason, Refused};
 use sizes::HEADER;
-use width::width_bytes;
 
 // A source and an image that are accepted: how many comments there are, and where the tree stands.
 #[derive(Clone, Copy, Debug, PartialEq, Eq)]
@@ -44,7 +43,7 @@ pub fn source_fits(source: &[u8]) -> bool
 pub fn header_fits(image: &[u8]) -> bool
     ensures { result ≡ header_fits any_version image.now }
 {
-    if image.len() < HEADER || image[0] != 1 {
+    if image.len() < HEADER || image[0] != 1 && image[0] != 2 {
         return false;
     }
     let n = num32(image, 1);
@@ -58,7 +57,6 @@ fn read_tree(source: &[u8], image: &[u8], at: usize) -> Result<Document, Refused
     let reader = Reader {
         source,
         image,
-        width: width_bytes(image),
         left: MAX_RECORDS_DEEP,
         at,
         end: image.len(),
@@ -93,5 +91,20 @@ pub fn check(source: &[u8], image: &[u8]) -> Result<Document, Refused>
         return Err(Reason::SourceTooLong.at(0));
     }
     text::utf8::check(source)?;
+    read_image(source, image)
+}
+
+// Accepts a source and an image of one version, or refuses them: by 3 where the image is of another.
+#[tactic(auto, unfolding(crate::specs::Read::read_with))]
+pub fn check_version(source: &[u8], image: &[u8], version: u8) -> Result<Document, Refused>
+    ensures { answer_of (λ d. d) result ≡ outcome (read_version version false source.now image.now) }
+{
+    if !source_fits(source) {
+        return Err(Reason::SourceTooLong.at(0));
+    }
+    text::utf8::check(source)?;
+    if image.is_empty() || image[0] != version {
+        return Err(Reason::Header.at(0));
+    }
     read_image(source, image)
 }

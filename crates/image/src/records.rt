@@ -5,7 +5,7 @@ ghost use Rattle.text.specs.Newlines.{is_range};
 ghost use Rattle.image.specs.Bytes.{be32};
 ghost use Rattle.image.specs.Kinds.{TEXT};
 ghost use Rattle.image.specs.Places.{due_number, place_number, row_number};
-ghost use Rattle.image.specs.Read.{shape, skips, kind_at};
+ghost use Rattle.image.specs.Read.{width_bytes, shape, skips, kind_at};
 ghost use Rattle.image.specs.Open.{head_read, head_due, stop_due, record_due, child_due, children_due};
 ghost use Rattle.image.specs.KindNumbers.{kind_of};
 
@@ -14,6 +14,7 @@ use crate::grammar::{Due, Place, after_row, first_child, is_over, is_text, paylo
 use crate::kinds::Kind;
 use crate::reader::Reader;
 use crate::sizes::{HEAD, LENGTH};
+use crate::width::width_bytes;
 use refusals::{Reason, Refused};
 
 // A record whose children are to be read: where they start, where they stop, and their places.
@@ -29,7 +30,7 @@ impl Reader<'_> {
     #[tactic(auto, unfolding(crate::specs::Read::shape))]
     fn shaped_kind(&self, due: Due) -> Option<Kind>
         ensures { result
-            ≡ cond (shape self.now.image.now self.now.width (due_number due) self.now.at self.now.end) (kind_of (kind_at self.now.image.now self.now.at)) None }
+            ≡ cond (shape self.now.image.now (width_bytes self.now.image.now) (due_number due) self.now.at self.now.end) (kind_of (kind_at self.now.image.now self.now.at)) None }
     {
         if self.end - self.at < LENGTH {
             return None;
@@ -43,15 +44,7 @@ impl Reader<'_> {
             return None;
         }
         let kind = Kind::of(byte)?;
-        payload_fits(
-            self.image,
-            self.width,
-            due,
-            kind,
-            self.at + HEAD,
-            self.at + LENGTH + n,
-        )
-        .then_some(kind)
+        payload_fits(self.image, due, kind, self.at + HEAD, self.at + LENGTH + n).then_some(kind)
     }
 
     // Whether length 0 stands alone here, at a place that may be empty.
@@ -65,21 +58,18 @@ impl Reader<'_> {
     // Whether the record here is a text, not too short, that ends in time.
     #[tactic(auto, unfolding(crate::specs::Read::shape, crate::specs::Grammar::kind_fits_of, crate::specs::Grammar::payload_fits))]
     fn text_fits(&self) -> bool
-        ensures { result ≡ shape self.now.image.now self.now.width TEXT self.now.at self.now.end }
+        ensures { result ≡ shape self.now.image.now (width_bytes self.now.image.now) TEXT self.now.at self.now.end }
     {
         if self.end - self.at < LENGTH {
             return false;
         }
         let n = num32(self.image, self.at);
-        if n < 9 + self.width || self.end < self.at + LENGTH + n {
+        let width = width_bytes(self.image);
+        if n < 9 + width || self.end < self.at + LENGTH + n {
             return false;
         }
         self.image[self.at + LENGTH] == Kind::Text as u8
-            && is_text(
-                self.image,
-                self.at + HEAD + self.width,
-                self.at + LENGTH + n,
-            )
+            && is_text(self.image, self.at + HEAD + width, self.at + LENGTH + n)
     }
 
     // Whether the span of the record here is one of the source.
@@ -98,7 +88,7 @@ impl Reader<'_> {
     fn go_to(&mut self, at: usize)
         requires { at ≤ self.old.end }
         ensures same { (self.new.source.now ≡ self.old.source.now) × (self.new.image.now ≡ self.old.image.now) }
-        ensures rest { (self.new.left ≡ self.old.left) × (self.new.at ≡ at) × (self.new.end ≡ self.old.end) × (self.new.width ≡ self.old.width) }
+        ensures rest { (self.new.left ≡ self.old.left) × (self.new.at ≡ at) × (self.new.end ≡ self.old.end) }
     {
         self.at = at;
     }
@@ -175,7 +165,6 @@ impl Reader<'_> {
         let inner = Reader {
             source: self.source,
             image: self.image,
-            width: self.width,
             left: self.left - 1,
             at: o.first,
             end: o.stop,

@@ -33,7 +33,7 @@ use Rattle.cut_rule.specs.Tests.{rows_in, layout_tests_in}
 use Rattle.cut_rule.specs.Parts.{Piece, rule_line, layout_tests, before_rows, rows_line, layout_table, rows_needed, call_piece, laid_of}
 use Rattle.cut_rule.proofs.Memory.{write_sets}
 use Rattle.cut_rule.proofs.Table.{LayoutFits, layout_fits}
-use Rattle.whole_run.specs.Parts.{keeps_waiting, parts_of, act_piece}
+use Rattle.whole_run.specs.Parts.{other_rule, keeps_waiting, parts_of, act_piece}
 use Rattle.whole_run.specs.Demands.{rules_of}
 use Rattle.whole_run.specs.Built.{tree, declared}
 use Rattle.whole_run.proofs.Whole.{call_piece_lem}
@@ -71,10 +71,10 @@ module _ (s b : List ℕ) (state : LayoutState) (q : LayoutArgs) (store : List �
   needed = rows_needed (parts_of s b) (to_args q) (to_state state)
 
   -- the lines before 8, and 8 where these let pass
-  before_from : (o : Option Refusal) → rule_line q.rule ≡ o → first before ≡ first (o ∷ read_refusal (read_all s b) ∷ refuse_if unfit 12 0 ∷ [])
+  before_from : (o : Option Refusal) → rule_line (other_rule b q.rule) q.rule ≡ o → first before ≡ first (o ∷ read_refusal (read_all s b) ∷ refuse_if unfit 12 0 ∷ [])
   before_from o e = ap (λ (x : Option Refusal). first (x ∷ read_refusal (read_all s b) ∷ refuse_if unfit 12 0 ∷ [])) e
 
-  before_by : (o : Option Refusal) (t : Bool) → rule_line q.rule ≡ None → read_refusal (read_all s b) ≡ o → unfit ≡ t
+  before_by : (o : Option Refusal) (t : Bool) → rule_line (other_rule b q.rule) q.rule ≡ None → read_refusal (read_all s b) ≡ o → unfit ≡ t
       → first before ≡ first (o ∷ refuse_if t 12 0 ∷ [])
   before_by o t g e f = before_from None g ∙ ap₂ (λ (x : Option Refusal) (y : Bool). first (x ∷ refuse_if y 12 0 ∷ [])) e f
 
@@ -98,7 +98,7 @@ module _ (s b : List ℕ) (state : LayoutState) (q : LayoutArgs) (store : List �
     fits_told x declarations e f = rw (sym e, comments_count a) f
 
     -- so, by what it answers, 12 refuses the state or lets it pass
-    pub fits_unless : rule_line q.rule ≡ None → (x : Bool) (declarations : ℕ) → declarations ≡ length (declared s b)
+    pub fits_unless : rule_line (other_rule b q.rule) q.rule ≡ None → (x : Bool) (declarations : ℕ) → declarations ≡ length (declared s b)
         → x ≡ not (any (layout_tests_in declarations d.comments (length s) (rows_in store) (to_args q) (to_state state))) → x ≡ true
         → StateFits s b state q store
     fits_unless g x declarations e f h = record { chosen = g; tested = not-true unfit (sym (fits_told x declarations e f) ∙ h) }
@@ -107,7 +107,7 @@ module _ (s b : List ℕ) (state : LayoutState) (q : LayoutArgs) (store : List �
     reads = sym (read_refusal_lem (read_all s b)) ∙ ap refusal_of a.answer
 
     -- 12
-    pub ends_unfit : rule_line q.rule ≡ None → (x : Bool) (declarations : ℕ) → declarations ≡ length (declared s b)
+    pub ends_unfit : rule_line (other_rule b q.rule) q.rule ≡ None → (x : Bool) (declarations : ℕ) → declarations ≡ length (declared s b)
         → x ≡ not (any (layout_tests_in declarations d.comments (length s) (rows_in store) (to_args q) (to_state state))) → x ≡ false
         → LayoutCalled s b state q store (Err (record { reason = reason.State; place = 0 })) store
     ends_unfit g x declarations e f h =

@@ -12,7 +12,7 @@ use Rattle.acts.specs.declared.Cursor.{Cursor}
 use Rattle.refusals.specs.Refusals.{any}
 use Rattle.cut_rule.specs.Tests.{rows_in}
 use Rattle.cut_rule.specs.Parts.{rule_line, layout_tests, rows_needed}
-use Rattle.whole_run.specs.Parts.{keeps_waiting, parts_of}
+use Rattle.whole_run.specs.Parts.{other_rule, keeps_waiting, parts_of}
 use Rattle.whole_run.specs.Built.{tree, declared}
 use Rattle.layout_call.specs.Calls.{to_state, to_args}
 use Rattle.layout_call.specs.declared.LayoutState.{LayoutState}
@@ -46,9 +46,13 @@ pub record Goes (s b : List ℕ) (d : Document) (state : LayoutState) (q : Layou
 abbrev pub missing : ℕ → ℕ → Option ℕ
 missing rows needed = cond (ltb rows needed) (Some needed) None
 
+-- 20 does not refuse a rule
+abbrev pub RuleFits : List ℕ → List ℕ → ℕ → Type 0
+RuleFits s b rule = rule_line (other_rule b rule) rule ≡ None
+
 -- 20 and 12 do not refuse
 pub record StateFits (s b : List ℕ) (state : LayoutState) (q : LayoutArgs) (store : List ℕ) : Type 0 where
-  pub chosen : rule_line q.rule ≡ None
+  pub chosen : RuleFits s b q.rule
   pub tested : any (layout_tests (parts_of s b) (to_args q) (to_state state) store) ≡ false
 
 -- 8 does not refuse

@@ -10,8 +10,7 @@ pub mod modes;
 mod room;
 pub mod steps;
 
-ghost use Rattle.std.specs.Prelude.{◌≡◌, None};
-ghost use Rattle.cut_rule.specs.Parts.{rule_line};
+ghost use Rattle.layout_call.specs.Steps.{RuleFits};
 ghost use Rattle.layout_call.specs.Whole.{LayoutCalled};
 ghost use Rattle.layout_call.specs.ByFile.{of_file};
 
@@ -61,7 +60,7 @@ pub fn layout_accepted(
     state: LayoutState,
     args: LayoutArgs,
 ) -> Result<Laid, Refused>
-    requires { rule_line args.rule ≡ None }
+    requires { of_file RuleFits file args.rule }
     ensures { of_file LayoutCalled file.entry state args store.old result store.new }
 {
     let within = Within {
@@ -90,7 +89,7 @@ pub fn layout_call(
 ) -> Result<Laid, Refused>
     ensures { LayoutCalled source.now image.now state args store.old result store.new }
 {
-    rule_chosen(args.rule)?;
+    rule_chosen(image, args.rule)?;
     let file = Accepted::check(source, image)?;
     layout_accepted(file, store, state, args)
 }

@@ -28,6 +28,7 @@ number_of reason.ImageNeeds = 17
 number_of reason.Frames = 18
 number_of reason.BatchNeeds = 19
 number_of reason.Rule = 20
+number_of reason.StoredWidth = 21
 
 abbrev pub refusal : Refused → Refusal
 refusal r = record { number = number_of r.reason; place = r.place }

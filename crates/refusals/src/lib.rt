@@ -30,13 +30,14 @@ pub enum Reason {
     Frames = 18,
     BatchNeeds = 19,
     Rule = 20,
+    StoredWidth = 21,
 }
 
 impl Reason {
     pub fn number(self) -> u8
         ensures { result ≡ number_of self }
     {
-        // kept: an enum's number is got by a cast alone; a table of the 20 would say them twice.
+        // kept: an enum's number is got by a cast alone; a table of the 21 would say them twice.
         self as u8
     }
 

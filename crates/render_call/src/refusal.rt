@@ -41,7 +41,7 @@ impl Call<'_> {
     pub(crate) fn refusal(&self, store: &[u32], marks: &[u8]) -> Result<(), Refused>
         ensures { refusal_in result ≡ early_refusal self.now.source.now self.now.image.now self.now.args self.now.state store.now marks.now }
     {
-        rule_chosen(self.args.rule)?;
+        rule_chosen(self.image, self.args.rule)?;
         self.image_refusal()?;
         let rows = Rows {
             store,

@@ -1,6 +1,7 @@
 // The groups of stored answers, each with the buffers that its replay needs.
 use crate::calls::ANSWERS;
 use crate::cases::{self, replay_case};
+use crate::image_moves::{self, replay_move};
 use crate::step_lists::{self, replay_list};
 use stored_answers::group::filled;
 use stored_answers::report::{replay, show_counts, show_end};
@@ -38,4 +39,19 @@ pub(crate) fn steps(rt: &impl Print, answers: &[u8]) {
     let c = replay(rt, answers, |answers| replay_list(answers, &mut buffers));
     show_counts(rt, "lists of steps", &counts);
     show_end(rt, "lists of steps", c);
+}
+
+// Moves of images between versions.
+pub(crate) fn moves(rt: &impl Print, answers: &[u8]) {
+    let mut moved: [u8; 4096] = filled(0);
+    let mut back: [u8; 4096] = filled(0);
+    let mut counts = [0usize; 22];
+    let mut buffers = image_moves::Buffers {
+        moved: &mut moved,
+        back: &mut back,
+        counts: &mut counts,
+    };
+    let c = replay(rt, answers, |answers| replay_move(answers, &mut buffers));
+    show_counts(rt, "moves", &counts);
+    show_end(rt, "moves", c);
 }

@@ -1,10 +1,11 @@
-// Runs stored answers against the port (reference/ANSWERS.md): the original's to lists of calls, and those to lists of steps. Each group is a
-// file of data/.
+// Runs stored answers against the port (reference/ANSWERS.md): the original's to lists of calls, and those to lists of steps and to moves of
+// images. Each group is a file of data/.
 #![tactic(auto)]
 
 mod calls;
 mod cases;
 mod groups;
+mod image_moves;
 mod states;
 mod step_lists;
 
@@ -17,4 +18,6 @@ fn main(rt: HostRuntime) {
     groups::calls(&rt, &input[..n]);
     let n = read(&rt, "steps", &mut input);
     groups::steps(&rt, &input[..n]);
+    let n = read(&rt, "moves", &mut input);
+    groups::moves(&rt, &input[..n]);
 }

@@ -10,7 +10,7 @@ pub(crate) fn frames(rt: &impl Print, answers: &[u8]) {
     let mut store = rows();
     let mut marks = marks();
     let mut out: [u8; 65536] = filled(0);
-    let mut counts = [0usize; 14];
+    let mut counts = [0usize; 21];
     let mut buffers = Buffers {
         store: &mut store,
         marks: &mut marks,

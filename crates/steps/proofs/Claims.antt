@@ -75,7 +75,7 @@ turns_into l b c end e i short =
 
 -- ---- a written image
 module _ (s l b : List ℕ) (small : Bytes l) (t : Turns l b) where
-  again : AgainAll b (contained l b t).contents (read_version 1 false s b)
+  again : AgainAll false s b (contained l b t).contents (read_version 1 false s b)
   again =
       let c = contained l b t in
       let one : version b ≡ 1 = ap (λ (x : List ℕ). get_or x 0 0) (sym c.image) in
@@ -87,7 +87,9 @@ module _ (s l b : List ℕ) (small : Bytes l) (t : Turns l b) where
   reads_back =
       let c = contained l b t in
       record {
-        refused_by = λ n p e. rw e at again;
+        refused_by = λ n p e.
+            let held : AgainAll false s b c.contents (bad n p) = rw e at again in
+            held.0;
         gives = λ i end e.
             let same : contents_of b i ≡ c.contents = rw e at again in
             ap (λ (x : Contents). list_bytes (steps x)) same ∙ sym (list_is l c.contents c.end small c.from);

@@ -1,12 +1,14 @@
 -- What a record must be to stand at a place, whether it is given by steps or by bytes: the tests of the writer and of the reader, without either.
 -- Assumes nothing.
 use mathlib.Core.Path.{◌≡◌, sym, ap, ◌∙◌}
-use mathlib.Core.Bool.{true, false}
+use mathlib.Core.Bool.{Bool, true, false, cond, ◌&&◌}
 use mathlib.Core.List.{List, [], ◌∷◌, ◌++◌}
 use Prim.Native.Nat.{ℕ, suc, ◌≤◌, ◌<◌}
-use lib.Dec.{eqb}
+use lib.Dec.{ltb, leb, eqb}
 use lib.ListN.{length}
 use Rattle.text.specs.Utf8.{well_formed}
+use Rattle.text.specs.Newlines.{is_range}
+use Rattle.image.specs.Read.{source_fits}
 use Rattle.image.specs.Kinds.{TREE, TEXT}
 use Rattle.image.specs.Limits.{MAX_COMMENTS, MAX_RECORDS_DEEP}
 use Rattle.image.specs.Grammar.{is_optional, bare, place, after, complete, row_under_of, kind_fits_of, has_byte, top_byte}
@@ -41,7 +43,23 @@ mutual
     here : {left row : ℕ} {x : Plain} {xs : Plains} → eqb row 0 ≡ false → Fits v left (bare (place row)) x → FitsRow v left (after row) xs
         → FitsRow v left row (x next xs)
 
+-- every span is one of the source
+unfoldable mutual
+  pub ranges : List ℕ → Plain → Bool
+  ranges s without = true
+  ranges s (plainly kind from to x xs) = is_range s from to && ranges_all s xs
+
+  pub ranges_all : List ℕ → Plains → Bool
+  ranges_all s done = true
+  ranges_all s (x next xs) = ranges s x && ranges_all s xs
+
 -- ---- comments
+-- none empty or reversed, each in the source, and where they are in order, each behind the one before
+unfoldable pub comments_fit : Bool → List ℕ → ℕ → List Span → Bool
+comments_fit ordered s least [] = true
+comments_fit ordered s least (c ∷ cs) =
+    (leb least c.start && ltb c.start c.end && is_range s c.start c.end) && comments_fit ordered s (cond ordered c.end 0) cs
+
 -- n at most, none empty or reversed
 pub data Listing : ℕ → List Span → Type 0 where
   no_more : {n : ℕ} → Listing n []
@@ -51,3 +69,10 @@ pub data Listing : ℕ → List Span → Type 0 where
 pub record FitsAll (v : ℕ) (c : Contents) : Type 0 where
   pub listing : Listing MAX_COMMENTS c.comments
   pub tree : Fits v MAX_RECORDS_DEEP TREE c.tree
+
+-- the source is one that an image of these contents fits
+pub record Suits (ordered : Bool) (s : List ℕ) (c : Contents) : Type 0 where
+  pub short : source_fits s ≡ true
+  pub formed : well_formed s ≡ true
+  pub listed : comments_fit ordered s 0 c.comments ≡ true
+  pub spans : ranges s c.tree ≡ true

@@ -15,12 +15,12 @@ use Rattle.image.specs.Bytes.{be16, be32, part}
 use Rattle.image.specs.Kinds.{TEXT}
 use Rattle.image.specs.Grammar.{is_optional, bare, place, after, complete, has_byte, payload_fits, first_child}
 use Rattle.image.specs.Read.{Read, got, bad, bind, kind_at, stop_at, Tree, Trees, absent, nil, ◌▸◌, skips, child_at, record_at, children_at}
-use Rattle.image.specs.Write.{plain, plains, Bytes}
+use Rattle.image.specs.Write.{Plain, Plains, plain, plains, Bytes}
 use Rattle.image.proofs.Shapes.{text_payload, byte_payload}
 use Rattle.image.proofs.Inside.{inside, none_deep}
 use Rattle.image.proofs.Exact.{join}
 use Rattle.tree.proofs.Took.{took_is, took_none, took_byte, took_two}
-use Rattle.tree.proofs.Fits.{Front, two, none, Pays, text, byte, nothing, Fits, fits, FitsRow, ends, gone, here}
+use Rattle.tree.proofs.Fits.{Front, two, none, Pays, text, byte, nothing, Fits, fits, FitsRow, ends, gone, here, ranges, ranges_all}
 use Rattle.image.proofs.Got.{never, bind_got, passed, stayed}
 
 -- ---- the payload
@@ -89,39 +89,54 @@ skips_optional b p at end e =
     let t₂ = leb (at + 4) end in
     and_left t₁ t₂ (and_left (t₁ && t₂) (eqb (be32 b at) 0) e)
 
--- what `one` reads up to `stop` fits
-abbrev Fit : List ℕ → ℕ → ℕ → (ℕ → ℕ → ℕ → Read Tree) → Type 0
-Fit b v left one = (p at stop : ℕ) (t : Tree) (q : ℕ) → stop ≤ length b → one p at stop ≡ got t q → Fits v left p (plain b t)
+-- a record, and records, that fit, whose spans are those of the source
+pub record Right (s : List ℕ) (v left p : ℕ) (x : Plain) : Type 0 where
+  pub fit : Fits v left p x
+  pub spans : ranges s x ≡ true
 
-children_fit : (s b : List ℕ) (v left : ℕ) → Fit b v left (record_at s b v left) → (n row at stop : ℕ) (ts : Trees) (e : ℕ) → stop ≤ length b
-    → children_at (child_at s b v left) n row at stop ≡ got ts e → FitsRow v left row (plains b ts)
-unfolding children_at plain
+pub record RightRow (s : List ℕ) (v left row : ℕ) (xs : Plains) : Type 0 where
+  pub fit : FitsRow v left row xs
+  pub spans : ranges_all s xs ≡ true
+
+-- what `one` reads up to `stop` is right
+abbrev Fit : List ℕ → List ℕ → ℕ → ℕ → (ℕ → ℕ → ℕ → Read Tree) → Type 0
+Fit s b v left one = (p at stop : ℕ) (t : Tree) (q : ℕ) → stop ≤ length b → one p at stop ≡ got t q → Right s v left p (plain b t)
+
+children_fit : (s b : List ℕ) (v left : ℕ) → Fit s b v left (record_at s b v left) → (n row at stop : ℕ) (ts : Trees) (e : ℕ) → stop ≤ length b
+    → children_at (child_at s b v left) n row at stop ≡ got ts e → RightRow s v left row (plains b ts)
+unfolding children_at plain ranges
 children_fit s b v left f zero row at stop ts e far h = never h
 children_fit s b v left f (suc n) row at stop ts e far h =
     go (children_fit s b v left f n (after row)) (read_turned (child_at s b v left) n row at stop ts e h)
   where
     go : ((at stop : ℕ) (ts : Trees) (e : ℕ) → stop ≤ length b → children_at (child_at s b v left) n (after row) at stop ≡ got ts e
-        → FitsRow v left (after row) (plains b ts))
-        → ReadTurn (child_at s b v left) n row at stop ts e → FitsRow v left row (plains b ts)
-    go more (ended c is) = rw is (ends c)
+        → RightRow s v left (after row) (plains b ts))
+        → ReadTurn (child_at s b v left) n row at stop ts e → RightRow s v left row (plains b ts)
+    go more (ended c is) = rw is (record { fit = ends c; spans = refl })
     go more (next t m us z o r is) = rw is (child (skips b (place row) at stop) refl o (more m stop us e far r))
       where
         child : (x : Bool) → skips b (place row) at stop ≡ x → cond x (got absent (at + 4)) (record_at s b v left (bare (place row)) at stop) ≡ got t m
-            → FitsRow v left (after row) (plains b us) → FitsRow v left row (plains b (t ▸ us))
+            → RightRow s v left (after row) (plains b us) → RightRow s v left row (plains b (t ▸ us))
         child true k o rest =
             let gone-is : absent ≡ t = cc in
-            rw (← gone-is) (gone (skips_optional b (place row) at stop k) rest)
-        child false k o rest = here z (f (bare (place row)) at stop t m far o) rest
+            rw (← gone-is) (record { fit = gone (skips_optional b (place row) at stop k) rest.fit; spans = rest.spans })
+        child false k o rest =
+            let w = f (bare (place row)) at stop t m far o in
+            record { fit = here z w.fit rest.fit; spans = rw (w.spans, rest.spans) }
 
-pub record_fits : (s b : List ℕ) → Bytes b → (v : ℕ) → (v ≡ 2) ⊎ (v ≡ 0) → (left : ℕ) → Fit b v left (record_at s b v left)
-unfolding plain
+pub record_fits : (s b : List ℕ) → Bytes b → (v : ℕ) → (v ≡ 2) ⊎ (v ≡ 0) → (left : ℕ) → Fit s b v left (record_at s b v left)
+unfolding plain ranges
 record_fits s b small v two-or-none zero p at end t q far h = absurd (none_deep s b v p at end t q h)
 record_fits s b small v two-or-none (suc left) p at end t q far h =
     let i = inside s b v left p at end t q h in
     let o = i.held in
     let far' : stop_at b at ≤ length b = omega (arith, o.right.within) in
     let low : at + 13 ≤ stop_at b at = omega (arith, o.right.long) in
+    let kids = children_fit s b v left (record_fits s b small v two-or-none left) _ _ _ _ _ _ far' i.kept in
     rw i.is
-    (fits o.right.kind (range_order s (be32 b (at + 5)) (be32 b (at + 9)) o.span)
-    (payload_fits_lem b small v two-or-none p (kind_at b at) (at + 13) (stop_at b at) low far' o.right.payload)
-    (children_fit s b v left (record_fits s b small v two-or-none left) _ _ _ _ _ _ far' i.kept))
+    (record {
+      fit =
+          fits o.right.kind (range_order s (be32 b (at + 5)) (be32 b (at + 9)) o.span)
+          (payload_fits_lem b small v two-or-none p (kind_at b at) (at + 13) (stop_at b at) low far' o.right.payload) kids.fit;
+      spans = rw (o.span, kids.spans);
+    })

@@ -19,7 +19,7 @@ use Rattle.image.specs.Write.{Plain, Plains, without, plainly, ◌next◌, bytes
 use Rattle.image.proofs.Shapes.{Shaped, is_shaped, kind_list}
 use Rattle.image.proofs.Reading.{record_bad, record_opens, within, ended}
 use Rattle.tree.proofs.Stands.{Stands, stands_within, stands_left, stands_right, stands_part, stands_byte, stands_be32}
-use Rattle.tree.proofs.Fits.{front_size, Pays, text, byte, nothing, Fits, fits, FitsRow, ends, gone, here}
+use Rattle.tree.proofs.Fits.{front_size, Pays, text, byte, nothing, Fits, fits, FitsRow, ends, gone, here, ranges, ranges_all}
 
 -- ---- a payload
 -- a text has no children
@@ -89,22 +89,22 @@ module _ (b : List ℕ) (at kind from to : ℕ) (x kids : List ℕ) (s : Stands 
   inner = stands_right (bytes4 (length (content kind from to x kids)) ++ (kind ∷ []) ++ bytes4 from ++ bytes4 to) (x ++ kids) (at + 13) refl s
 
 -- ---- what is read again
--- x, up to q; or refusal 6
-abbrev pub Again : List ℕ → Plain → ℕ → Read Tree → Type 0
-Again b x q (got t e) = (plain b t ≡ x) × (e ≡ q)
-Again b x q (bad n e) = n ≡ 6
+-- x, up to q; or refusal 6, where a span isn't one of the source's
+abbrev pub Again : List ℕ → List ℕ → Plain → ℕ → Read Tree → Type 0
+Again s b x q (got t e) = (plain b t ≡ x) × (e ≡ q)
+Again s b x q (bad n e) = (n ≡ 6) × (ranges s x ≡ false)
 
-abbrev pub AgainRow : List ℕ → Plains → ℕ → Read Trees → Type 0
-AgainRow b xs q (got ts e) = (plains b ts ≡ xs) × (e ≡ q)
-AgainRow b xs q (bad n e) = n ≡ 6
+abbrev pub AgainRow : List ℕ → List ℕ → Plains → ℕ → Read Trees → Type 0
+AgainRow s b xs q (got ts e) = (plains b ts ≡ xs) × (e ≡ q)
+AgainRow s b xs q (bad n e) = (n ≡ 6) × (ranges_all s xs ≡ false)
 
 -- ---- a record
-node_again : (b : List ℕ) (h : Head) (kind from to : ℕ) (x : List ℕ) (xs : Plains) (q : ℕ) (r : Read Trees) → AgainRow b xs q r → h.kind ≡ kind
+node_again : (s b : List ℕ) (h : Head) (kind from to : ℕ) (x : List ℕ) (xs : Plains) (q : ℕ) (r : Read Trees) → AgainRow s b xs q r → h.kind ≡ kind
     → h.from ≡ from → h.to ≡ to → part (h.at + 13) h.first b ≡ x
-    → Again b (plainly kind from to x xs) q (bind r (λ ts e. got (node h ts) e))
-unfolding plain
-node_again b h kind from to x xs q (got ts e) a k f t y = (rw (k, f, t, y, a.0), a.1)
-node_again b h kind from to x xs q (bad n e) a k f t y = a
+    → Again s b (plainly kind from to x xs) q (bind r (λ ts e. got (node h ts) e))
+unfolding plain ranges
+node_again s b h kind from to x xs q (got ts e) a k f t y = (rw (k, f, t, y, a.0), a.1)
+node_again s b h kind from to x xs q (bad n e) a k f t y = (a.0, rw a.1 (and_false (is_range s from to)))
 
 -- refusal 6 of a record with the right shape
 six : (s b : List ℕ) (v left p at end : ℕ) → Shaped b v p at end → is_range s (be32 b (at + 5)) (be32 b (at + 9)) ≡ false
@@ -115,9 +115,10 @@ six s b v left p at end h e =
 
 record_by : (s b : List ℕ) (v left p at end kind from to : ℕ) (x : List ℕ) (xs : Plains) → Stands b at (framed (content kind from to x (writtens xs)))
     → kind_fits_of p kind ≡ true → Pays v p kind x → (eqb kind TEXT ≡ true → writtens xs ≡ []) → at + 13 + length (x ++ writtens xs) ≤ end
-    → AgainRow b xs (at + 13 + length (x ++ writtens xs))
+    → AgainRow s b xs (at + 13 + length (x ++ writtens xs))
     (children_at (child_at s b v left) (suc (length b)) (row_under_of p kind) (at + 13 + length x) (at + 13 + length (x ++ writtens xs)))
-    → Again b (plainly kind from to x xs) (at + 13 + length (x ++ writtens xs)) (record_at s b v (suc left) p at end)
+    → Again s b (plainly kind from to x xs) (at + 13 + length (x ++ writtens xs)) (record_at s b v (suc left) p at end)
+unfolding ranges
 record_by s b v left p at end kind from to x xs st right pays none far a = go (is_range s (be32 b (at + 5)) (be32 b (at + 9))) refl
   where
     kids : List ℕ
@@ -144,28 +145,32 @@ record_by s b v left p at end kind from to x xs st right pays none far a = go (i
           payload = rw (k, stop) (payload_again b v (at + 13) (writtens xs) pays none inside).0;
         }
 
+    span_is : is_range s from to ≡ is_range s (be32 b (at + 5)) (be32 b (at + 9))
+    span_is = rw (from_is b at kind from to x kids st, to_is b at kind from to x kids st)
+
     goal : Read Tree → Type 0
-    goal = Again b (plainly kind from to x xs) (at + 13 + length (x ++ writtens xs))
+    goal = Again s b (plainly kind from to x xs) (at + 13 + length (x ++ writtens xs))
 
     go : (t : Bool) → is_range s (be32 b (at + 5)) (be32 b (at + 9)) ≡ t → goal (record_at s b v (suc left) p at end)
-    go false e = rw (six s b v left p at end shape e)
+    go false e = rw (six s b v left p at end shape e, span_is, e) (refl, refl)
     go true e =
         rw (record_opens s b v left p at end (record { more = λ z. omega arith; right = shape; span = e }))
-        (node_again b (head_at b at) kind from to x xs _ (within s b v left p at) (rw (first, k, stop) a) k (from_is b at kind from to x kids st)
+        (node_again s b (head_at b at) kind from to x xs _ (within s b v left p at) (rw (first, k, stop) a) k (from_is b at kind from to x kids st)
         (to_is b at kind from to x kids st)
         (rw first (stands_part x _ refl (stands_left x (writtens xs) inside))))
 
 -- ---- children
-next_again : (b : List ℕ) (t : Tree) (x : Plain) (xs : Plains) (q : ℕ) (r : Read Trees) → plain b t ≡ x → AgainRow b xs q r
-    → AgainRow b (x next xs) q (bind r (λ ts e. got (t ▸ ts) e))
-unfolding plain
-next_again b t x xs q (got ts e) is a = (rw (is, a.0), a.1)
-next_again b t x xs q (bad n e) is a = a
+next_again : (s b : List ℕ) (t : Tree) (x : Plain) (xs : Plains) (q : ℕ) (r : Read Trees) → plain b t ≡ x → AgainRow s b xs q r
+    → AgainRow s b (x next xs) q (bind r (λ ts e. got (t ▸ ts) e))
+unfolding plain ranges
+next_again s b t x xs q (got ts e) is a = (rw (is, a.0), a.1)
+next_again s b t x xs q (bad n e) is a = (a.0, rw a.1 (and_false (ranges s x)))
 
-child_again : (b : List ℕ) (x : Plain) (xs : Plains) (m q : ℕ) (f : Tree → ℕ → Read Trees) (r : Read Tree) → Again b x m r
-    → ((t : Tree) → plain b t ≡ x → AgainRow b (x next xs) q (f t m)) → AgainRow b (x next xs) q (bind r f)
-child_again b x xs m q f (got t e) a k = rw a.1 (k t a.0)
-child_again b x xs m q f (bad n e) a k = a
+child_again : (s b : List ℕ) (x : Plain) (xs : Plains) (m q : ℕ) (f : Tree → ℕ → Read Trees) (r : Read Tree) → Again s b x m r
+    → ((t : Tree) → plain b t ≡ x → AgainRow s b (x next xs) q (f t m)) → AgainRow s b (x next xs) q (bind r f)
+unfolding ranges
+child_again s b x xs m q f (got t e) a k = rw a.1 (k t a.0)
+child_again s b x xs m q f (bad n e) a k = (a.0, rw a.1)
 
 -- a turn is left where a byte is
 pub turn_left : (n : ℕ) → 1 ≤ n → (m : ℕ) × (n ≡ suc m)
@@ -205,7 +210,7 @@ mutual
   unfolding written plain
 
   pub record_again : (s b : List ℕ) (v : ℕ) {left p : ℕ} {x : Plain} → Fits v left p x → (at end : ℕ) → Stands b at (written x) → at + length (written x) ≤ end
-      → Again b x (at + length (written x)) (record_at s b v left p at end)
+      → Again s b x (at + length (written x)) (record_at s b v left p at end)
   record_again s b v (fits {left = left} {p = p} {kind = kind} {from = from} {to = to} {x = x} {xs = xs} right order pays row) at end st far =
       let kids = writtens xs in
       let inside : Stands b (at + 13 + length x) kids = stands_right x kids _ refl (inner b at kind from to x kids st) in
@@ -217,7 +222,7 @@ mutual
       inside))
 
   pub row_again : (s b : List ℕ) (v : ℕ) {left row : ℕ} {xs : Plains} → FitsRow v left row xs → (n at stop : ℕ) → length (writtens xs) < n
-      → stop ≡ at + length (writtens xs) → Stands b at (writtens xs) → AgainRow b xs stop (children_at (child_at s b v left) n row at stop)
+      → stop ≡ at + length (writtens xs) → Stands b at (writtens xs) → AgainRow s b xs stop (children_at (child_at s b v left) n row at stop)
   row_again s b v (ends {left = left} {row = row} c) n at stop more e st =
       let m = turn_left n (omega arith) in
       rw (m.1, ended (child_at s b v left) m.0 row at stop (omega arith) c) (refl, refl)
@@ -229,7 +234,7 @@ mutual
         turn (child_at s b v left) m.0 row at stop (omega arith) (marked row o),
         skipped b (place row) at stop o (omega arith) zero-there,
       )
-      (next_again b absent without ys stop (children_at (child_at s b v left) m.0 (after row) (at + 4) stop) refl
+      (next_again s b absent without ys stop (children_at (child_at s b v left) m.0 (after row) (at + 4) stop) refl
       (row_again s b v rest m.0 (at + 4) stop (omega (arith, m.1)) (omega arith) (stands_right (bytes4 0) (writtens ys) (at + 4) refl st)))
   row_again s b v (here {left = left} {row = row} {x = y} {xs = ys} z x rest) n at stop more e st =
       let m = turn_left n (omega arith) in
@@ -242,8 +247,8 @@ mutual
         turn (child_at s b v left) m.0 row at stop (omega arith) z,
         not_skipped b (place row) at stop (λ none. counted b x at mine none),
       )
-      (child_again b y ys (at + length (written y)) stop _ (record_at s b v left (bare (place row)) at stop)
+      (child_again s b y ys (at + length (written y)) stop _ (record_at s b v left (bare (place row)) at stop)
       (record_again s b v x at stop mine (omega arith))
       (λ t is.
-      next_again b t y ys stop (children_at (child_at s b v left) m.0 (after row) (at + length (written y)) stop) is
+      next_again s b t y ys stop (children_at (child_at s b v left) m.0 (after row) (at + length (written y)) stop) is
       (row_again s b v rest m.0 (at + length (written y)) stop (omega (arith, m.1)) (omega arith) far)))

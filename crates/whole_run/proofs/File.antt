@@ -79,7 +79,7 @@ fits_header b h =
       eq-eqb (5 + be32 b 1) (length b) h.size,
       le-leb (be32 b 1) 1048576 h.short,
     )
-    h.may_be
+    refl
 
 module _ (s b : List ℕ) where
   abbrev count : ℕ

@@ -13,6 +13,7 @@ use Rattle.refusals.proofs.Groups.{first_append, refuses_left, left_to, passes_l
 use Rattle.image.specs.Read.{read_all, read_refusal}
 use Rattle.cut_rule.specs.States.{render_fresh}
 use Rattle.cut_rule.specs.Parts.{rule_line, width_line}
+use Rattle.whole_run.specs.Parts.{other_rule}
 use Rattle.whole_run.specs.Built.{FileChoice, render_choice, rows_due, marks_due, drawn_due}
 use Rattle.whole_run.specs.File.{mode_line, file_before_rows, file_rows_line, file_marks_line, file_text_line}
 use Rattle.whole_run.specs.File.{file_before_marks, file_before_text, laid_refusal, refusal_in}
@@ -24,7 +25,7 @@ left_to_two os ps qs e =
 
 -- 20, 1 to 7, 12 and 15
 pub record FilePassed (s b : List ℕ) (c : FileChoice) : Type 0 where
-  pub chosen : rule_line c.rule ≡ None
+  pub chosen : rule_line (other_rule b c.rule) c.rule ≡ None
   pub read : read_refusal (read_all s b) ≡ None
   pub moded : mode_line c ≡ None
   pub legal : width_line (render_choice c) render_fresh ≡ None
@@ -34,10 +35,10 @@ module _ (s b : List ℕ) (c : FileChoice) where
   file_passed h =
       let widths : List (Option Refusal) = width_line (render_choice c) render_fresh ∷ [] in
       let others : List (Option Refusal) = read_refusal (read_all s b) ∷ mode_line c ∷ widths in
-      let reads = passes_others (rule_line c.rule) others h in
+      let reads = passes_others (rule_line (other_rule b c.rule) c.rule) others h in
       let modes = passes_others (read_refusal (read_all s b)) (mode_line c ∷ widths) reads in
       record {
-        chosen = passes_line (rule_line c.rule) others h;
+        chosen = passes_line (rule_line (other_rule b c.rule) c.rule) others h;
         read = passes_line (read_refusal (read_all s b)) (mode_line c ∷ widths) reads;
         moded = passes_line (mode_line c) widths modes;
         legal = passes_line (width_line (render_choice c) render_fresh) [] (passes_others (mode_line c) widths modes);

@@ -3,16 +3,16 @@
 -- Assumes nothing.
 use mathlib.Core.Logic.{◌⊎◌, inl, inr}
 use mathlib.Core.Path.{◌≡◌, refl, sym, ap, ap₂, ◌∙◌}
-use mathlib.Core.Bool.{Bool, true, false, ◌||◌}
+use mathlib.Core.Bool.{Bool, true, false, not, ◌&&◌, ◌||◌}
 use Rattle.std.specs.Prelude.{Option, None}
 use mathlib.Core.List.{List, [], ◌∷◌, ◌++◌}
 use Prim.Native.Nat.{ℕ, ◌-◌, max}
-use lib.Dec.{ltb}
+use lib.Dec.{eqb, ltb}
 use lib.ListN.{length, take, replicate}
 use Rattle.laws.proofs.Booleans.{or_none}
 use Rattle.image.specs.Read.{read_all, read_refusal}
 use Rattle.layout.specs.Layout.{fmt_parsed}
-use Rattle.widths.specs.Rules.{SUPPLIED, edition_of}
+use Rattle.widths.specs.Rules.{SUPPLIED, UNICODE_16_0, edition_of}
 use Rattle.rows.specs.Node.{Nodes}
 use Rattle.rows.specs.Rows.{rows}
 use Rattle.rows.specs.View.{view_of, nodes_at}
@@ -31,11 +31,11 @@ use Rattle.cut_rule.specs.Rules.{RenderResult}
 use Rattle.cut_rule.specs.Run.{write_front}
 use Rattle.cut_rule.specs.States.{RenderState, render_fresh}
 use Rattle.cut_rule.specs.Tests.{rows_in, row_tests, pen_tests, mark_tests, rule_tests, width_tests}
-use Rattle.cut_rule.specs.Parts.{Drawn, with_cleared}
+use Rattle.cut_rule.specs.Parts.{Drawn, with_cleared, rule_line}
 use Rattle.whole_run.specs.Parts.{renderer_of, drawn_by, page, parts_of}
 use Rattle.whole_run.specs.Built.{reference_choice, render_choice, laid}
 use Rattle.whole_run.specs.File.{file_rows, file_marks, FileResult}
-use Rattle.whole_run.specs.Reference.{built_then, rows_then, image_then, tests_then, FileAsBefore, CallAsBefore, ReferenceHolds}
+use Rattle.whole_run.specs.Reference.{built_then, rows_then, version_then, image_then, tests_then, FileAsBefore, CallAsBefore, ReferenceHolds}
 
 -- 15 never refuses 80 where none or 80 is carried
 pub never_15 : (carried : ℕ) → (carried ≡ 0) ⊎ (carried ≡ REFERENCE_WIDTH) → refuse_if (any (width_tests REFERENCE_WIDTH carried)) 15 0 ≡ None
@@ -67,7 +67,8 @@ module _ (s b : List ℕ) where
   abbrev refusal_with : ℕ → Nodes → Page → Option Refusal
   refusal_with room ns p =
       first
-      (read_refusal (read_all s b)
+      (version_then s b
+      ∷ read_refusal (read_all s b)
       ∷ refuse_if (ltb file_rows (rows_then s b)) 8 (rows_then s b)
       ∷ refuse_if (ltb file_marks (marks_with ns)) 9 (marks_with ns)
       ∷ refuse_if (ltb room (length (drawn_with ns p).text)) 10 (length (drawn_with ns p).text)
@@ -90,7 +91,7 @@ module _ (s b : List ℕ) where
   file_as_before = record {
     not_12 = refl;
     not_15 = refl;
-    not_20 = refl;
+    not_20 = λ e. ap (λ (t : Bool). rule_line (t && not (eqb SUPPLIED UNICODE_16_0)) SUPPLIED) e;
     same_built = refl;
     refusal = λ room. ap₂ (refusal_with room) laid_same page_same;
     answer = λ room. ap₂ (answer_with room) laid_same page_same;
@@ -116,7 +117,8 @@ module _ (s b : List ℕ) where
     abbrev table_with : Option ℕ → Bool → Option Refusal → Page → Option Refusal
     table_with wrong tests widths p =
         first
-        (image_then s b
+        (version_then s b
+        ∷ image_then s b
         ∷ refuse_at wrong 11
         ∷ refuse_if tests 12 0
         ∷ widths

@@ -14,6 +14,7 @@ use Rattle.cut_rule.specs.Run.{write_front}
 use Rattle.cut_rule.specs.States.{layout_fresh, render_fresh, OLD_MODE, NEW_MODE}
 use Rattle.cut_rule.specs.Tests.{rows_in, mode_tests}
 use Rattle.cut_rule.specs.Parts.{rule_line, width_line}
+use Rattle.whole_run.specs.Parts.{other_rule}
 use Rattle.whole_run.specs.Built.{FileChoice, layout_choice, render_choice, tree, built, laid, rows_due, marks_due, drawn_due}
 
 -- What the run has of its own: "It has 1,800 rows, 1,800 marks and 65,536 output bytes." The output is lent.
@@ -31,7 +32,7 @@ module _ (s b : List ℕ) where
   -- ---- the table, in parts
   -- the lines before it is counted how many rows there will be: 20, 1 to 7, then 12 and 15, a fresh state carrying no width
   abbrev pub file_before_rows : FileChoice → List (Option Refusal)
-  file_before_rows c = rule_line c.rule ∷ read_refusal (read_all s b) ∷ mode_line c ∷ width_line (render_choice c) render_fresh ∷ []
+  file_before_rows c = rule_line (other_rule b c.rule) c.rule ∷ read_refusal (read_all s b) ∷ mode_line c ∷ width_line (render_choice c) render_fresh ∷ []
 
   -- 8, in so many rows
   abbrev pub file_rows_line : FileChoice → ℕ → List (Option Refusal)

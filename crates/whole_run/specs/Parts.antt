@@ -1,9 +1,9 @@
 -- Document 01's rules for one source s and one image b, as the cut rule takes them. Each part is a definition of a lower layer; here they are
 -- only put together.
-use Rattle.std.specs.Prelude.{Bool, true, cond, not, List, [], ◌∷◌, map, ℕ, ◌+◌, ◌-◌, eqb, length, Option, None, Some}
+use Rattle.std.specs.Prelude.{Bool, true, cond, not, ◌&&◌, List, [], ◌∷◌, map, ℕ, ◌+◌, ◌-◌, eqb, length, Option, None, Some}
 use Rattle.text.specs.Utf8.{ill_formed}
 use Rattle.text.specs.Space.{trim_end}
-use Rattle.image.specs.Read.{Read, got, bad, Image, header_fits, any_version, source_fits, read_all, read_refusal}
+use Rattle.image.specs.Read.{Read, got, bad, Image, version, header_fits, any_version, source_fits, read_all, read_refusal}
 use Rattle.ast.specs.Syntax.{Declaration, SyntaxTree}
 use Rattle.tree.specs.Records.{syntax_tree}
 use Rattle.rows.specs.Rows.{sizes, rows}
@@ -17,7 +17,7 @@ use Rattle.layout.specs.Layout.{shebang_rule, declaration}
 use Rattle.layout.specs.Closing.{closing}
 use Rattle.renderer_rules.specs.Renderer.{Page, Renderer, fresh_renderer, render_nodes}
 use Rattle.renderer_rules.specs.Check.{wrong_place_by}
-use Rattle.widths.specs.Rules.{SUPPLIED}
+use Rattle.widths.specs.Rules.{SUPPLIED, UNICODE_16_0}
 use Rattle.node_widths.specs.Summed.{laid_nodes}
 use Rattle.node_widths.specs.Measured.{rule_page}
 use Rattle.refusals.specs.Refusals.{Refusal, first, refuse_if}
@@ -32,6 +32,10 @@ use Rattle.cut_rule.specs.Parts.{Piece, Drawn, RuleParts}
 abbrev pub accepted_tree : List ℕ → Read Image → SyntaxTree
 accepted_tree b (got i end) = syntax_tree b i.tree
 accepted_tree b (bad n p) = record { shebang = None; declarations = [] }
+
+-- "20 also for a first byte 2 under any other width rule" than 16.0: version 2 has no widths of its own
+abbrev pub other_rule : List ℕ → ℕ → Bool
+other_rule b rule = eqb (version b) 2 && not (eqb rule UNICODE_16_0)
 
 -- "under the new rule rendering tests 2 as well": what refuses by it, unless widths are supplied
 abbrev pub formed_line : ℕ → List ℕ → Option Refusal
@@ -96,6 +100,7 @@ parts_by r s b =
       source_size = length s;
       declarations = length tree.declarations;
       comments = length (comments_of b);
+      other_rule = other_rule b;
       layout_image = read_refusal r;
       render_image_of = λ c. render_image c.rule s b;
       shebang = λ k. act_piece k.rule s b (shebang_rule (given s b) tree.shebang);

@@ -1,9 +1,9 @@
 -- "80 is the reference", and "equality with the Rust in the old" mode: with these all is as it was before a caller could choose. 12 and 15 refuse
 -- no file, what is built is what `fmt_parsed` builds, and `Renderer` has the Rust's `max`.
 -- The definitions here have no choice; proofs/Reference.antt proves that those with a choice are these at 80 and in the old mode.
-use Rattle.std.specs.Prelude.{◌⊎◌, ◌≡◌, Bool, true, not, List, [], ◌∷◌, ◌++◌, ℕ, ◌-◌, max, ltb, length, take, replicate, Option, None}
+use Rattle.std.specs.Prelude.{◌⊎◌, ◌≡◌, Bool, true, false, not, List, [], ◌∷◌, ◌++◌, ℕ, ◌-◌, max, eqb, ltb, length, take, replicate, Option, None}
 use Rattle.widths.specs.Rules.{SUPPLIED}
-use Rattle.image.specs.Read.{header_fits, any_version, source_fits, read_all, read_refusal}
+use Rattle.image.specs.Read.{version, header_fits, any_version, source_fits, read_all, read_refusal}
 use Rattle.rows.specs.View.{view_of, nodes_at}
 use Rattle.rows.specs.Rows.{sizes, rows}
 use Rattle.acts.specs.Act.{Out}
@@ -23,7 +23,7 @@ use Rattle.cut_rule.specs.Run.{write_front}
 use Rattle.cut_rule.specs.States.{RenderChoice, RenderState, render_fresh}
 use Rattle.cut_rule.specs.Tests.{rows_in, row_tests, pen_tests, mark_tests}
 use Rattle.cut_rule.specs.Parts.{Drawn, with_cleared, rule_line, width_line, render_table, rendered_of}
-use Rattle.whole_run.specs.Parts.{renderer_of, drawn_by, parts_of}
+use Rattle.whole_run.specs.Parts.{other_rule, renderer_of, drawn_by, parts_of}
 use Rattle.whole_run.specs.Built.{reference_choice, render_choice, tree, built}
 use Rattle.whole_run.specs.File.{file_rows, file_marks, mode_line, file_refusal, FileResult, file_answer, file_output}
 
@@ -47,11 +47,16 @@ module _ (s b : List ℕ) where
   abbrev pub drawn_then : Drawn
   drawn_then = drawn_by (render_nodes (page_of 80 s b) built_then.nodes true (renderer_of render_fresh.pen (replicate marks_then 0)))
 
-  -- 1 to 7, then 8, 9, 10
+  -- 20, which with supplied widths is of an image of version 2 alone
+  abbrev pub version_then : Option Refusal
+  version_then = rule_line (other_rule b SUPPLIED) SUPPLIED
+
+  -- 20, 1 to 7, then 8, 9, 10
   abbrev pub refusal_then : ℕ → Option Refusal
   refusal_then room =
       first
-      (read_refusal (read_all s b)
+      (version_then
+      ∷ read_refusal (read_all s b)
       ∷ refuse_if (ltb file_rows rows_then) 8 rows_then
       ∷ refuse_if (ltb file_marks marks_then) 9 marks_then
       ∷ refuse_if (ltb room (length drawn_then.text)) 10 (length drawn_then.text)
@@ -72,7 +77,7 @@ module _ (s b : List ℕ) where
   pub record FileAsBefore : Type 0 where
     pub not_12 : mode_line reference_choice ≡ None
     pub not_15 : width_line (render_choice reference_choice) render_fresh ≡ None
-    pub not_20 : rule_line reference_choice.rule ≡ None
+    pub not_20 : eqb (version b) 2 ≡ false → version_then ≡ None
     pub same_built : built s b reference_choice ≡ built_then
     pub refusal : (room : ℕ) → file_refusal s b reference_choice room ≡ refusal_then room
     pub answer : (room : ℕ) → file_answer s b reference_choice room ≡ answer_then room
@@ -94,13 +99,14 @@ module _ (s b : List ℕ) where
   abbrev pub tests_then : ℕ → RenderState → List ℕ → List ℕ → List Bool
   tests_then stop z store marks = row_tests (rows_in store) stop z.row ++ (pen_tests z.pen ++ mark_tests marks z.in_use)
 
-  -- 1, 3, 11, 12, 9, 10
+  -- 20, 1, 3, 11, 12, 9, 10
   abbrev pub call_refusal : RenderArgs RenderChoice → RenderState → List ℕ → List ℕ → Option Refusal
   call_refusal q z store marks =
       let needed = marks_needed (q.to.stop - z.row) store z.row in
       let bytes = length (call_drawn z (take z.in_use marks) store q.to.stop).text in
       first
-      (image_then
+      (version_then
+      ∷ image_then
       ∷ refuse_at (wrong_place s b store z.row q.to.stop) 11
       ∷ refuse_if (any (tests_then q.to.stop z store marks)) 12 0
       ∷ refuse_if (ltb (length marks) needed) 9 needed

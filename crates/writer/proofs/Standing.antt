@@ -95,7 +95,7 @@ pub puts_part : (b : List ℕ) (from to pos end : ℕ) (out o : List ℕ) → fr
     → o ≡ sets out pos (part from to b) → Puts (part from to b) pos out end o
 puts_part b from to pos end out o h k n e = record { place = n ∙ ap (λ (m : ℕ). pos + m) (sym (part_length b from to h k)); output = e }
 
-puts_is : {xs ys : List ℕ} {pos end : ℕ} {out o : List ℕ} → xs ≡ ys → Puts xs pos out end o → Puts ys pos out end o
+pub puts_is : {xs ys : List ℕ} {pos end : ℕ} {out o : List ℕ} → xs ≡ ys → Puts xs pos out end o → Puts ys pos out end o
 puts_is {xs} {ys} {pos} {end} {out} {o} e p =
     record { place = p.place ∙ ap (λ (z : List ℕ). pos + length z) e; output = p.output ∙ ap (sets out pos) e }
 

@@ -49,14 +49,14 @@ pub struct Output<'a> {
 
 impl Output<'_> {
     // Sets the low four bytes of a number, big-endian, at a place.
-    pub(crate) fn set32(&mut self, pos: usize, n: usize)
+    pub fn set32(&mut self, pos: usize, n: usize)
         ensures { Sets (bytes4 (n % 4294967296)) pos self.old self.new }
     {
         set_number(self.bytes, pos, n);
     }
 
     // Puts a byte.
-    pub(crate) fn put(&mut self, byte: u8)
+    pub fn put(&mut self, byte: u8)
         requires { self.old.pos + 1 < 2 ^ 64 }
         ensures { Appends (byte ∷ []) self.old self.new }
     {
@@ -65,7 +65,7 @@ impl Output<'_> {
     }
 
     // Puts a number of two bytes, big-endian.
-    pub(crate) fn put16(&mut self, n: usize)
+    pub fn put16(&mut self, n: usize)
         requires { (self.old.pos + 2 < 2 ^ 64) × (n < 2 ^ 16) }
         ensures { Appends (bytes2 n) self.old self.new }
     {
@@ -74,7 +74,7 @@ impl Output<'_> {
     }
 
     // Puts the low four bytes of a number, big-endian.
-    pub(crate) fn put32(&mut self, n: usize)
+    pub fn put32(&mut self, n: usize)
         requires { self.old.pos + 4 < 2 ^ 64 }
         ensures { Appends (bytes4 (n % 4294967296)) self.old self.new }
     {
@@ -84,7 +84,7 @@ impl Output<'_> {
 
     // Puts bytes, one behind the other.
     #[inline(always)]
-    pub(crate) fn copy(&mut self, bytes: &[u8])
+    pub fn copy(&mut self, bytes: &[u8])
         requires { self.old.pos + length bytes.now < 2 ^ 64 }
         ensures { Appends bytes.now self.old self.new }
     {

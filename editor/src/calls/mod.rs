@@ -54,7 +54,7 @@ pub const ROW: usize = 9;
 /// How many numbers of the table of [`format_batch`] a file takes.
 pub const TABLE_ROW: usize = 3;
 
-/// Whether a source and its tree image are accepted.
+/// Whether a source and its tree image, of either version, are accepted.
 ///
 /// # Errors
 ///
@@ -77,7 +77,8 @@ pub fn check(file: File<'_>) -> Result<Accepted, Refusal> {
 ///
 /// # Errors
 ///
-/// Refusals 1 to 7, 12, 8. A refused call leaves the store as it was.
+/// Refusals 20 (for an image of version 2, unless widths are those of Unicode
+/// 16.0), 1 to 7, 12, 8. A refused call leaves the store as it was.
 pub fn layout(
     file: File<'_>,
     store: &mut [u32],
@@ -106,7 +107,7 @@ pub fn layout(
 ///
 /// # Errors
 ///
-/// Refusals 1, 3, 11, 12, 15, 9, 10; by an edition of Unicode also 2, before
+/// Refusals 20 (as [`layout`]), 1, 3, 11, 12, 15, 9, 10; by an edition of Unicode also 2, before
 /// 3, and 11 for a row's text that isn't UTF-8 or cuts a character. A refused
 /// call leaves marks and output as they were.
 pub fn render(
@@ -140,7 +141,7 @@ pub fn render(
 ///
 /// # Errors
 ///
-/// Refusals 1 to 7, 15, 8, 9, 10, each of which leaves the output as it was.
+/// Refusals 20 (as [`layout`]), 1 to 7, 15, 8, 9, 10, each of which leaves the output as it was.
 pub fn format_file(
     file: File<'_>,
     options: &Options,

@@ -8,7 +8,7 @@ use crate::{
     refusal::Refusal,
 };
 
-/// Writes the image of a list of steps into the output, from its start on,
+/// Writes the image, of version 1, of a list of steps into the output, from its start on,
 /// and says how many bytes it has.
 ///
 /// # Errors
@@ -20,12 +20,12 @@ pub fn write_image(list: &[u8], output: &mut [u8]) -> Result<usize, Refusal> {
     written(out)
 }
 
-/// Writes the list of the steps of an image into the output, from its start
+/// Writes the list of the steps of an image of version 1 into the output, from its start
 /// on, and says how many bytes it has.
 ///
 /// # Errors
 ///
-/// Refusals 1 to 7, 17, each of which leaves the output as it was.
+/// Refusals 1 to 7 (3 for an image of version 2 too), 17, each of which leaves the output as it was.
 pub fn write_list(
     file: File<'_>,
     output: &mut [u8],
@@ -42,7 +42,7 @@ fn written(out: [u64; 2]) -> Result<usize, Refusal> {
     Ok(bytes)
 }
 
-/// The steps of an image, to look at it or to change it.
+/// The steps of an image of version 1, to look at it or to change it.
 ///
 /// ```
 /// use rrufthim::{File, encode, generator::steps};
@@ -56,7 +56,7 @@ fn written(out: [u64; 2]) -> Result<usize, Refusal> {
 ///
 /// # Errors
 ///
-/// Refusals 1 to 7.
+/// Refusals 1 to 7, 3 for an image of version 2 too.
 pub fn steps(file: File<'_>) -> Result<Vec<Step>, Refusal> {
     // The steps of a text record without text take most for their bytes of
     // image: 18 for 15.

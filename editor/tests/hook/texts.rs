@@ -1,6 +1,6 @@
 //! Which texts are written, and which frames have none.
 
-use rrufthim::{ast::*, encode, limits::MAX_BATCH};
+use rrufthim::{Version, ast::*, encode, encode_as, limits::MAX_BATCH};
 
 use super::{
     folder::{Folder, LINE, Said, WIDE},
@@ -63,35 +63,58 @@ fn frames_without_a_text_are_named() {
     folder.put_lines("a.frame", LINE);
     let image = encode(&constants(LINE), &[0..5]).expect("an image");
     folder.put_frame("b.frame", "const", &image);
-    folder.put_frame("c.frame", "", b"\x02");
+    folder.put_frame("c.frame", "", b"\x03");
+    folder.put_frame("g.frame", "", b"\x02");
     folder.put("d.frame", b"\0\0\0\x09x");
     folder.put("e.frame", b"");
     folder.put_lines("f.frame", LINE);
-    for name in ["b.roto", "c.roto", "d.roto", "e.roto"] {
+    for name in ["b.roto", "c.roto", "d.roto", "e.roto", "g.roto"] {
         folder.put(name, b"as it was");
     }
     let check = folder.hook(&["--check"]);
-    let last = "6 frames: 2 would change, 2 refused, 2 failed";
+    let last = "7 frames: 2 would change, 3 refused, 2 failed";
     assert_eq!(ends(&check), (2, last));
     assert_eq!(folder.text("a.roto"), None);
     let said = folder.hook(&["--force"]);
-    assert_eq!(ends(&said), (2, "6 frames: 2 changed, 2 refused, 2 failed"));
+    assert_eq!(ends(&said), (2, "7 frames: 2 changed, 3 refused, 2 failed"));
     assert_eq!(folder.text("a.roto").as_deref(), Some(LINE));
     assert_eq!(folder.text("f.roto").as_deref(), Some(LINE));
-    for name in ["b.roto", "c.roto", "d.roto", "e.roto"] {
+    for name in ["b.roto", "c.roto", "d.roto", "e.roto", "g.roto"] {
         assert_eq!(folder.text(name).as_deref(), Some("as it was"));
     }
-    assert_eq!(said.err.len(), 4, "{said:?}");
+    assert_eq!(said.err.len(), 5, "{said:?}");
     let due = [
         "/b.frame: refused 6 at 45: line 1, column 6: the tree has the \
          span 6..7, which is no range",
         "/c.frame: refused 3 at 0: the tree image's version or length is wrong",
         "/d.frame: cut off",
         "/e.frame: no frame",
+        "/g.frame: refused 20 at 0: the tree image is of version 2",
     ];
     for (line, due) in said.err.iter().zip(due) {
         assert!(line.contains(due), "{line}");
     }
+}
+
+/// A frame of an archive says no widths: by Unicode 16.0 it has the text of a
+/// frame that does, and by any other rule it is named.
+#[test]
+fn archived_frames_ask_for_unicode_16() {
+    let folder = Folder::new("archived");
+    let tree = constants(LINE);
+    let image = encode_as(Version::Two, &tree, &[]).expect("an image");
+    folder.put_frame("a.frame", LINE, &image);
+    for words in [&["--check"][..], &["--unicode", "15.1"]] {
+        let said = folder.hook(words);
+        assert_eq!(said.status, 2);
+        let due = "/a.frame: refused 20 at 0: the tree image is of version \
+            2, which has no widths: choose those of Unicode 16.0";
+        assert!(said.err[0].ends_with(due), "{said:?}");
+        assert_eq!(folder.names(), ["a.frame"]);
+    }
+    let said = folder.hook(&["--unicode", "16.0"]);
+    assert_eq!(ends(&said), (0, "1 frame: 1 changed"));
+    assert_eq!(folder.text("a.roto").as_deref(), Some(LINE));
 }
 
 /// More than one batch, and a file that is too large for one.

@@ -5,7 +5,7 @@ use judge::{
     frame::{self, Frame},
     mode,
     program::{self, Widths},
-    reader::{self, Accepted},
+    reader::{self, Accepted, Version},
     rule::{UNICODE_15_1, UNICODE_16_0},
     tree,
 };
@@ -59,11 +59,13 @@ impl Due {
     }
 }
 
-/// What is not as the judge has it, with the widths that the image supplies;
-/// `None` if the reader refuses the frame.
+/// What is not as the judge has it, with the widths that an image of version 1
+/// supplies; `None` if the reader refuses the frame, or it is of version 2.
 pub fn differences(bytes: &[u8]) -> Option<Vec<&'static str>> {
     let frame = frame::split_any_size(bytes).expect("a frame");
-    let accepted = reader::read(frame.source, frame.image).ok()?;
+    let one = Version::One;
+    let accepted = reader::read_version(frame.source, frame.image, one);
+    let accepted = accepted.ok()?;
     let due = Due::of(frame, &accepted);
     let file = decode(&accepted);
     let input = tree::Input::new(&accepted, frame.image);

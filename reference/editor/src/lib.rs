@@ -28,7 +28,7 @@ pub struct File<'i> {
     pub source: &'i str,
     pub tree: SyntaxTree,
     pub extras: Extras,
-    /// The widths that the image supplies, in its order.
+    /// The widths that an image of version 1 supplies, in its order.
     pub widths: VecDeque<usize>,
 }
 
@@ -36,7 +36,10 @@ pub struct File<'i> {
 pub fn decode<'i>(accepted: &Accepted<'i>) -> File<'i> {
     let mut widths = VecDeque::new();
     accepted.tree.walk(&mut |record| {
-        if let Payload::Text { width, .. } = record.payload {
+        if let Payload::Text {
+            width: Some(width), ..
+        } = record.payload
+        {
             widths.push_back(width.into());
         }
     });

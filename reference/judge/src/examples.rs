@@ -8,9 +8,10 @@ use crate::{
 };
 
 /// The names that [`frame`] knows, each with what it shows.
-pub const NAMES: [(&str, &str); 8] = [
+pub const NAMES: [(&str, &str); 9] = [
     ("shebang", "the worked frame: `#!/x` and two newlines"),
-    ("version-2", "the same with version 2: refused 3 at 0"),
+    ("version-3", "the same with first byte 3: refused 3 at 0"),
+    ("version-2", "the same with first byte 2: refused 20 at 0"),
     ("nothing", "no shebang, no declarations: one row, no text"),
     ("comment-alone", "nothing but a comment: 1 left"),
     ("const", "10 rows, 1 group number, 18 bytes"),
@@ -33,6 +34,7 @@ pub fn frame(name: &str) -> Option<Vec<u8>> {
     let comment = |at| vec![at..at + 5];
     let frame = match name {
         "shebang" => worked(1),
+        "version-3" => worked(3),
         "version-2" => worked(2),
         "nothing" => of_source("", vec![], vec![]),
         "comment-alone" => of_source("# ok\n", comment(0), vec![]),

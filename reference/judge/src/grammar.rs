@@ -33,7 +33,8 @@ pub enum Child {
 #[derive(Clone, Copy, Debug, PartialEq, Eq)]
 pub enum Payload {
     Nothing,
-    /// A width in two bytes, then UTF-8 to the record's end.
+    /// A width in two bytes, which version 2 lacks, then UTF-8 to the
+    /// record's end.
     Text,
     /// One byte of at most this.
     Byte(u8),

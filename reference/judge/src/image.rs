@@ -2,12 +2,15 @@
 
 use std::ops::Range;
 
+use crate::reader::Version;
+
 /// A record to be written.
 #[derive(Clone, Debug, PartialEq, Eq)]
 pub struct Tree {
     pub kind: u8,
     pub span: Range<usize>,
-    /// What stands before the children; a text's width and bytes are here.
+    /// What stands before the children; a text's bytes are here, in version 1
+    /// behind its width.
     pub payload: Vec<u8>,
     pub children: Vec<Option<Tree>>,
 }
@@ -34,7 +37,7 @@ pub fn node(
     }
 }
 
-/// A text record.
+/// A text record of version 1.
 pub fn text(span: Range<usize>, width: usize, text: &str) -> Tree {
     let width = u16::try_from(width).expect("a width in two bytes");
     Tree {
@@ -60,18 +63,32 @@ pub fn chosen(
 
 /// Version 1, with comments and one tree.
 pub fn write(comments: &[Range<usize>], tree: &Tree) -> Vec<u8> {
+    write_as(Version::One, comments, tree)
+}
+
+/// The same with the first byte of a version.
+pub fn write_as(
+    version: Version,
+    comments: &[Range<usize>],
+    tree: &Tree,
+) -> Vec<u8> {
     let count = u16::try_from(comments.len()).expect("a count in two bytes");
     let mut body = count.to_be_bytes().to_vec();
     for comment in comments {
         put_span(&mut body, comment);
     }
     put(&mut body, tree);
-    with_header(&body)
+    with_version(version, &body)
 }
 
-/// A body with version and length in front.
+/// A body with version 1 and its length in front.
 pub fn with_header(body: &[u8]) -> Vec<u8> {
-    [&[1][..], &number(body.len()), body].concat()
+    with_version(Version::One, body)
+}
+
+/// A body with a version and its length in front.
+pub fn with_version(version: Version, body: &[u8]) -> Vec<u8> {
+    [&[version as u8][..], &number(body.len()), body].concat()
 }
 
 fn put(out: &mut Vec<u8>, tree: &Tree) {

@@ -34,6 +34,7 @@ pub mod grammar;
 pub mod holds;
 pub mod image;
 pub mod mode;
+pub mod moves;
 pub mod newlines;
 pub mod program;
 pub mod random;

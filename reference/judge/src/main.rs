@@ -35,6 +35,8 @@ usage: judge run [--true-widths] < frame      what the program must write
        judge replay-frames-counts             what it must write of them
        judge replay-steps                     the lists of steps
        judge replay-steps-counts              what it must write of them
+       judge replay-moves                     the images to move
+       judge replay-moves-counts              what is due for them
        judge replay-batches                   the batches
        judge replay-batches-counts            what it must write of them
        judge text-answers                     answers of Rust's text functions
@@ -119,6 +121,8 @@ fn command(words: &[&str]) -> Result<Pieces, String> {
         ["replay-frames-counts"] => one(answers::replay::frames_output()),
         ["replay-steps"] => one(answers::replay::steps_input()),
         ["replay-steps-counts"] => one(answers::replay::steps_output()),
+        ["replay-moves"] => one(answers::replay::moves_input()),
+        ["replay-moves-counts"] => one(answers::replay::moves_output()),
         ["replay-batches"] => one(answers::replay::batches_input()),
         ["replay-batches-counts"] => one(answers::replay::batches_output()),
         ["text-answers"] => one(answers::text::answers()),

@@ -28,13 +28,14 @@ pub fn format(frame: Frame, widths: Widths) -> Result<Run, Refusal> {
     format_as(frame, widths, Choice::REFERENCE)
 }
 
-/// The same by its caller's choice: 20, the reader's refusals, 12 and 15.
+/// The same by its caller's choice: 20, the reader's refusals, 12 and 15. The
+/// reference's rule is that of supplied widths, so 20 for a first byte 2.
 pub fn format_as(
     frame: Frame,
     widths: Widths,
     choice: Choice,
 ) -> Result<Run, Refusal> {
-    rule::check(choice.rule)?;
+    rule::check_for(choice.rule, frame.image)?;
     let accepted = reader::read(frame.source, frame.image)?;
     choice.check()?;
     let input = Input::new(&accepted, frame.image);
@@ -47,8 +48,8 @@ pub fn answer(bytes: &[u8], widths: Widths) -> Result<Run, Refusal> {
     within_limits(frame::split(bytes)?, widths)
 }
 
-/// Runs the formatter with the program's rows, marks and output: the reader's
-/// refusals, then 8, 9, 10.
+/// Runs the formatter with the program's rows, marks and output: 20 for a first
+/// byte 2, the reader's refusals, then 8, 9, 10.
 pub fn within_limits(frame: Frame, widths: Widths) -> Result<Run, Refusal> {
     let run = format(frame, widths)?;
     fits(&run).map(|()| run)

@@ -20,6 +20,15 @@ const LENGTH: usize = 4;
 /// Kind and span: the least that follows a record's length.
 const LEAST: usize = 9;
 
+/// What an image's first byte says.
+#[derive(Clone, Copy, Debug, PartialEq, Eq)]
+pub enum Version {
+    /// Each text has its width in two bytes.
+    One = 1,
+    /// Request 9: it has none.
+    Two = 2,
+}
+
 /// A source and an image that no test turned down.
 #[derive(Debug)]
 pub struct Accepted<'i> {
@@ -44,7 +53,11 @@ pub struct Record<'i> {
 #[derive(Clone, Copy, Debug, PartialEq, Eq)]
 pub enum Payload<'i> {
     Nothing,
-    Text { width: u16, text: &'i str },
+    /// A text, with its width in version 1.
+    Text {
+        width: Option<u16>,
+        text: &'i str,
+    },
     Byte(u8),
 }
 
@@ -66,12 +79,27 @@ pub enum Ranges {
     Believed,
 }
 
-/// Reads an image with its source: refusals 1, 2, 3, 7, then 4, 5, 6.
+/// Reads an image of either version with its source: refusals 1, 2, 3, 7,
+/// then 4, 5, 6.
 pub fn read<'i>(
     source: &'i [u8],
     image: &'i [u8],
 ) -> Result<Accepted<'i>, Refusal> {
     read_with(source, image, Ranges::Tested)
+}
+
+/// The same for a caller that reads one version alone: 3 for the other.
+pub fn read_version<'i>(
+    source: &'i [u8],
+    image: &'i [u8],
+    version: Version,
+) -> Result<Accepted<'i>, Refusal> {
+    check_source_length(source)?;
+    check_encoding(source)?;
+    if check_header(image)? != version {
+        return Err(refusal(3, 0));
+    }
+    read(source, image)
 }
 
 /// The same with or without the tests of ranges.
@@ -82,11 +110,12 @@ pub fn read_with<'i>(
 ) -> Result<Accepted<'i>, Refusal> {
     check_source_length(source)?;
     let source = check_encoding(source)?;
-    check_header(image)?;
+    let version = check_header(image)?;
     let comments = read_comments(source, image, ranges)?;
     let mut reader = Reader {
         source,
         image,
+        version,
         ranges,
         at: HEADER + COUNT + PAIR * comments.len(),
     };
@@ -114,15 +143,20 @@ pub fn check_encoding(source: &[u8]) -> Result<&str, Refusal> {
     std::str::from_utf8(source).map_err(|bad| refusal(2, bad.valid_up_to()))
 }
 
-/// Refusal 3.
-pub fn check_header(image: &[u8]) -> Result<(), Refusal> {
-    match image {
-        [1, a, b, c, d, body @ ..]
+/// Refusal 3; else the version.
+pub fn check_header(image: &[u8]) -> Result<Version, Refusal> {
+    let (version, rest) = match image {
+        [1, rest @ ..] => (Version::One, rest),
+        [2, rest @ ..] => (Version::Two, rest),
+        _ => return Err(refusal(3, 0)),
+    };
+    match rest {
+        [a, b, c, d, body @ ..]
             if u32::from_be_bytes([*a, *b, *c, *d]) as usize
                 == body.len()
                 && body.len() <= MOST_BODY =>
         {
-            Ok(())
+            Ok(version)
         }
         _ => Err(refusal(3, 0)),
     }
@@ -168,6 +202,7 @@ fn number(image: &[u8], at: usize) -> usize {
 struct Reader<'i> {
     source: &'i str,
     image: &'i [u8],
+    version: Version,
     ranges: Ranges,
     at: usize,
 }
@@ -260,12 +295,16 @@ impl<'i> Reader<'i> {
                 (byte <= most).then_some(Payload::Byte(byte))
             }
             grammar::Payload::Text => {
-                let (width, text) = bytes.split_first_chunk::<2>()?;
+                let (width, text) = match self.version {
+                    Version::One => {
+                        let (width, text) = bytes.split_first_chunk()?;
+                        (Some(u16::from_be_bytes(*width)), text)
+                    }
+                    Version::Two => (None, bytes),
+                };
                 self.at = end;
-                Some(Payload::Text {
-                    width: u16::from_be_bytes(*width),
-                    text: std::str::from_utf8(text).ok()?,
-                })
+                let text = std::str::from_utf8(text).ok()?;
+                Some(Payload::Text { width, text })
             }
         }
     }

@@ -29,6 +29,17 @@ pub fn check(rule: usize) -> Result<(), Refusal> {
     }
 }
 
+/// Refusal 20 of an entry that takes an image: the same, or a first byte 2
+/// under another rule than that of Unicode 16.0 (request 9). No more of the
+/// image is looked at.
+pub fn check_for(rule: usize, image: &[u8]) -> Result<(), Refusal> {
+    check(rule)?;
+    match image.first() {
+        Some(2) if rule != UNICODE_16_0 => Err(refusal(20, 0)),
+        _ => Ok(()),
+    }
+}
+
 /// Refusal 12, by the rule: another than the carried one, where 0 is none.
 pub fn check_carried(rule: usize, carried: usize) -> Result<(), Refusal> {
     if carried == 0 || carried == rule {

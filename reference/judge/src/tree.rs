@@ -60,11 +60,16 @@ impl<'i> Input<'i> {
         unicode_width::Supplied::new(self.widths.iter().copied())
     }
 
-    /// The address of each text as the formatter sees it, with its width.
+    /// The address of each text as the formatter sees it, with its width if
+    /// the image supplies one.
     fn collect_widths(&self, tree: &Record) -> Vec<(usize, usize)> {
         let mut widths = Vec::new();
         tree.walk(&mut |record| {
-            if let Payload::Text { width, text } = record.payload {
+            if let Payload::Text {
+                width: Some(width),
+                text,
+            } = record.payload
+            {
                 widths.push((text.as_ptr().addr(), width.into()));
             }
         });
@@ -96,9 +101,9 @@ impl<'i> Input<'i> {
     }
 }
 
-/// Offset of a text record's text: length, kind, span and width stand before.
+/// Offset of a text record's text, which goes to the record's end.
 fn text_at(record: &Record) -> usize {
-    record.at + 4 + 9 + 2
+    record.end - text(record).len()
 }
 
 /// Builds the tree, giving each node the span of its record.

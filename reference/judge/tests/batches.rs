@@ -44,7 +44,7 @@ fn refused(buffer: &[u8]) -> Refusal {
 
 #[test]
 fn rows_and_texts_in_a_row() {
-    let frames = buffer(&["shebang", "version-2", "const-comment"]);
+    let frames = buffer(&["shebang", "version-3", "const-comment"]);
     let old = answer(&frames, 80, 0);
     assert_eq!(old.table, [0, 0, 6, 3, 0, 0, 0, 0, 18]);
     assert_eq!(old.texts, b"#!/x\n\nconst A: u32 = 1;\n");
@@ -56,7 +56,7 @@ fn rows_and_texts_in_a_row() {
 
 #[test]
 fn refused_files_first_last_and_all() {
-    let [bad, a, b] = ["version-2", "const", "two-consts"];
+    let [bad, a, b] = ["version-3", "const", "two-consts"];
     let due_a = b"const A: u32 = 1;\n";
     let due_b = b"const A: u32 = 1; # ok\nconst B: u32 = 2;\n";
     let both = [&due_a[..], due_b].concat();
@@ -68,6 +68,10 @@ fn refused_files_first_last_and_all() {
         let got = answer(&buffer(&names), 80, 0);
         assert_eq!((&got.table[..], &got.texts), (&table[..], &both));
     }
+    // A first byte 2 under this rule.
+    let two = answer(&buffer(&[a, "version-2", b]), 80, 0);
+    assert_eq!(two.table, [0, 0, 18, 20, 0, 0, 0, 0, 41]);
+    assert_eq!(two.texts, both);
     let none = answer(&buffer(&[bad; 3]), 80, 0);
     assert_eq!(none.table, [3, 0, 0, 3, 0, 0, 3, 0, 0]);
     assert!(none.texts.is_empty());
@@ -87,7 +91,7 @@ fn a_bad_choice_is_in_each_row() {
         assert!(got.texts.is_empty());
         got.table
     };
-    let names = ["const", "version-2", "nothing"];
+    let names = ["const", "version-3", "nothing"];
     for width in [0, 39, 201, usize::MAX, (1 << 32) + 80] {
         assert_eq!(rows(&names, width, 1), [15, 0, 0, 3, 0, 0, 15, 0, 0]);
     }
@@ -102,7 +106,7 @@ fn a_bad_choice_is_in_each_row() {
 /// 20 in each row, before the file's own refusals and those of the choice.
 #[test]
 fn a_bad_rule_is_in_each_row() {
-    let frames = buffer(&["const", "version-2", "nothing"]);
+    let frames = buffer(&["const", "version-3", "nothing"]);
     for rule in [0, 4, 1 << 32, usize::MAX, (1 << 32) + 1] {
         for (width, mode) in [(80, 0), (39, 2)] {
             let choice = Choice { width, mode, rule };
@@ -164,7 +168,7 @@ fn sizes_of_files() {
 
 #[test]
 fn table_then_output() {
-    let frames = buffer(&["const", "version-2", "two-consts"]);
+    let frames = buffer(&["const", "version-3", "two-consts"]);
     let [cells, bytes] = [9, 18 + 41];
     let in_room = |cells, room| {
         let answer = batch(&frames, Choice::REFERENCE, cells, room);
@@ -180,7 +184,7 @@ fn table_then_output() {
     assert_eq!(in_room(0, AMPLE), Err(refusal(19, cells)));
     // 18 comes first.
     let cut = &frames[..frames.len() - 1];
-    let at = known("const").len() + known("version-2").len();
+    let at = known("const").len() + known("version-3").len();
     let answer = batch(cut, Choice::REFERENCE, 0, 0);
     assert_eq!(answer, Err(refusal(18, at)));
 }

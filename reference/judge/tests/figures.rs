@@ -194,7 +194,8 @@ fn no_file_past_the_last_is_counted() {
 #[test]
 fn the_refusals_of_the_file_come_first() {
     let full = tallies(MOST_FILES, [0, 0, 0, 0, 1, 0, 0]);
-    assert_eq!(counted("version-2", &full), Err(refusal(3, 0)));
+    assert_eq!(counted("version-3", &full), Err(refusal(3, 0)));
+    assert_eq!(counted("version-2", &full), Err(refusal(20, 0)));
     assert_eq!(counted("nothing", &full), Err(FULL));
     let mut numbers = Vec::new();
     for case in generate::size_cases() {
@@ -286,15 +287,15 @@ fn an_input_that_ends_inside_a_file() {
 fn the_sample_of_the_report() {
     let table = answers::report::sample_table();
     let lines: Vec<&str> = table.lines().collect();
-    assert_eq!(lines.len(), 1 + 12 + 1 + 4);
-    for refused in [2, 3, 4, 6, 7, 8] {
+    assert_eq!(lines.len(), 1 + 13 + 1 + 4);
+    for refused in [2, 3, 4, 6, 7, 8, 20] {
         let words = format!(" refused {refused} at ");
         assert!(table.contains(&words), "{refused}");
     }
-    let numbers = lines[14].split_whitespace().skip(1);
+    let numbers = lines[15].split_whitespace().skip(1);
     assert_eq!(numbers.clone().count(), 7);
     assert!(numbers.into_iter().all(|number| number != "0"));
-    assert_eq!(lines[15..17], ["files counted: 6", "files refused: 6"]);
+    assert_eq!(lines[16..18], ["files counted: 6", "files refused: 7"]);
     let fraction = reduced(18, 92);
     assert!(fraction.under < 92);
     let Fraction { over, under } = fraction;
@@ -311,17 +312,17 @@ fn the_sample_of_the_report() {
 fn the_stored_run_of_the_report() {
     let table = answers::report::output();
     let lines: Vec<&str> = table.lines().collect();
-    let files = 12 + 1 + 4_098 + 1;
+    let files = 13 + 1 + 4_098 + 1;
     assert_eq!(lines.len(), 1 + files + 1 + 4);
-    assert_eq!(lines[13], "        13 refused 1 at 0");
-    // Six of the first twelve are counted.
-    let last = 13 + 4_096 - 6;
+    assert_eq!(lines[14], "        14 refused 1 at 0");
+    // Six of the first thirteen are counted.
+    let last = 14 + 4_096 - 6;
     assert!(!lines[last].contains("refused"));
     for line in &lines[last + 1..files] {
         assert!(line.ends_with(" refused 14 at 0"), "{line}");
     }
     assert!(lines[files].ends_with(" refused 3 at 0"));
-    assert_eq!(lines[files + 1], "the input ends inside file 4113");
-    let counts = ["files counted: 4096", "files refused: 16"];
+    assert_eq!(lines[files + 1], "the input ends inside file 4114");
+    let counts = ["files counted: 4096", "files refused: 17"];
     assert_eq!(lines[files + 3..files + 5], counts);
 }

@@ -27,7 +27,8 @@ fn every_name_has_a_frame() {
 #[test]
 fn the_worked_frames() {
     assert_eq!(output("shebang"), "#!/x\n\n");
-    assert_eq!(output("version-2"), "refused 3 at 0\n");
+    assert_eq!(output("version-3"), "refused 3 at 0\n");
+    assert_eq!(output("version-2"), "refused 20 at 0\n");
 }
 
 #[test]
@@ -83,6 +84,13 @@ fn refusal_13() {
     bytes.push(0);
     let refused = program::output(&bytes, Widths::Supplied);
     assert_eq!(refused, "refused 13 at 0\n");
+    // 13 comes before 20, and 20 before 2.
+    for (size, due) in [(0, "20"), (frame::MOST_BYTES, "13")] {
+        let mut bytes = frame::join(b"\xFF", b"\x02");
+        bytes.resize(bytes.len().max(size + 1), 0);
+        let refused = program::output(&bytes, Widths::Supplied);
+        assert_eq!(refused, format!("refused {due} at 0\n"));
+    }
 }
 
 #[test]

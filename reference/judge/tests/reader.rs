@@ -54,7 +54,13 @@ fn source_and_header() {
     assert_eq!(refused(b"", b"\x01\0\0\0"), Some((3, 0)));
     assert_eq!(refused(b"", &good[..good.len() - 1]), Some((3, 0)));
     assert_eq!(refused(b"", &[&good[..], b"x"].concat()), Some((3, 0)));
-    assert_eq!(refused(b"", &[b"\x02", &good[1..]].concat()), Some((3, 0)));
+    for first in [0, 3, 255] {
+        let other = [&[first], &good[1..]].concat();
+        assert_eq!(refused(b"", &other), Some((3, 0)));
+    }
+    assert_eq!(refused(b"", b"\x02\0\0\0"), Some((3, 0)));
+    // It has no text, so it is the same in version 2.
+    assert_eq!(refused(b"", &[b"\x02", &good[1..]].concat()), None);
 }
 
 #[test]

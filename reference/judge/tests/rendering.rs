@@ -46,10 +46,10 @@ fn the_file_is_small() {
 }
 
 #[test]
-fn every_refusal_of_rendering_but_1_is_there() {
+fn every_refusal_of_rendering_but_1_and_2_is_there() {
     let numbers: BTreeSet<u8> =
         refusals().into_iter().map(|(number, _)| number).collect();
-    assert_eq!(numbers, BTreeSet::from([3, 9, 10, 11, 12, 15]));
+    assert_eq!(numbers, BTreeSet::from([3, 9, 10, 11, 12, 15, 20]));
 }
 
 #[test]

@@ -114,7 +114,8 @@ fn changed(
         Payload::Nothing => vec![],
         Payload::Byte(byte) => vec![byte],
         Payload::Text { width, text } => {
-            [&width.to_be_bytes(), text.as_bytes()].concat()
+            let width = width.expect("version 1").to_be_bytes();
+            [&width, text.as_bytes()].concat()
         }
     };
     let spot = Spot {

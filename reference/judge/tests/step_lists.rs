@@ -29,7 +29,9 @@ fn images_to_steps_and_back() {
                     assert_eq!(back.as_deref(), Ok(parts.image), "{name}");
                 }
                 Err(refusal) => {
-                    let due = reader::read(parts.source, parts.image);
+                    let (source, image) = (parts.source, parts.image);
+                    let one = reader::Version::One;
+                    let due = reader::read_version(source, image, one);
                     assert_eq!(due.unwrap_err(), refusal);
                 }
             }

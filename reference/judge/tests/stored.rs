@@ -276,10 +276,11 @@ fn the_program_reaches_its_limits_among_the_frames() {
 #[test]
 fn the_worked_frames_come_first() {
     let texts: Vec<_> = stored::frames()
-        .take(2)
+        .take(3)
         .map(|f| program::output(&f, program::Widths::Supplied))
         .collect();
-    assert_eq!(texts, ["#!/x\n\n", "refused 3 at 0\n"]);
+    let due = ["#!/x\n\n", "refused 3 at 0\n", "refused 20 at 0\n"];
+    assert_eq!(texts, due);
 }
 
 #[test]
@@ -293,9 +294,15 @@ fn lists_of_steps_take_less_than_sixty_kilobytes() {
 }
 
 #[test]
-fn batches_take_about_seventy_kilobytes() {
+fn moves_take_about_eighty_kilobytes() {
+    let bytes = replay::moves_input().len();
+    assert!((30_000..85_000).contains(&bytes), "{bytes}");
+}
+
+#[test]
+fn batches_take_less_than_eighty_kilobytes() {
     let bytes = replay::batches_input().len();
-    assert!((30_000..75_000).contains(&bytes), "{bytes}");
+    assert!((30_000..80_000).contains(&bytes), "{bytes}");
     assert!(stored::batches().count() >= 60);
 }
 
@@ -306,9 +313,14 @@ fn the_replay_has_these_answers() {
     let read = |name| std::fs::read(format!("{at}/{name}")).expect("there");
     assert!(read("replay_calls/data/calls") == replay::calls_input());
     assert!(read("replay_calls/data/steps") == replay::steps_input());
+    assert!(read("replay_calls/data/moves") == replay::moves_input());
     assert!(read("replay_files/data/frames") == replay::frames_input());
     assert!(read("replay_files/data/batches") == replay::batches_input());
-    let calls = [replay::calls_output(), replay::steps_output()];
+    let calls = [
+        replay::calls_output(),
+        replay::steps_output(),
+        replay::moves_output(),
+    ];
     assert!(read("replay_calls/stdout") == calls.concat().into_bytes());
     let files = [replay::frames_output(), replay::batches_output()];
     assert!(read("replay_files/stdout") == files.concat().into_bytes());

@@ -8,6 +8,8 @@ pub mod compare;
 #[cfg(feature = "calls")]
 mod figures;
 pub mod measure;
+#[cfg(feature = "calls")]
+mod moves;
 pub mod port;
 pub mod program;
 #[cfg(feature = "calls")]
@@ -24,6 +26,8 @@ pub use columns::columns;
 #[cfg(feature = "calls")]
 pub use figures::count;
 use judge::refusal::Refusal;
+#[cfg(feature = "calls")]
+pub use moves::moved;
 #[cfg(feature = "calls")]
 pub use report::report;
 #[cfg(feature = "calls")]
@@ -111,7 +115,7 @@ impl<const N: usize> Out<N> {
         }
         match out {
             [0, rest @ ..] => Ok(*rest.first_chunk().expect("long enough")),
-            [number @ 1..=20, place, ..] => Err(Refusal {
+            [number @ 1..=21, place, ..] => Err(Refusal {
                 number: *number as u8,
                 place: *place,
             }),

@@ -17,6 +17,7 @@ const PLAN: Plan = Plan {
     steps: 300,
     batches: 60,
     reports: 10,
+    moves: 150,
 };
 
 const SHORT: Plan = Plan {
@@ -27,6 +28,7 @@ const SHORT: Plan = Plan {
     steps: 0,
     batches: 0,
     reports: 0,
+    moves: 0,
 };
 
 /// One test, since a planted fault holds for all threads.
@@ -80,7 +82,23 @@ fn items(fault: Fault) -> Vec<Item> {
             !matches!(item, Item::Rules(_) | Item::Text(_))
         });
     }
+    if fault as u8 >= Fault::MovedByte as u8 {
+        items.sort_by_key(|item| !is_of_moves(item));
+    }
     items
+}
+
+/// What is of version 2 alone, and short.
+fn is_of_moves(item: &Item) -> bool {
+    matches!(
+        item,
+        Item::FixedMove(_)
+            | Item::Move(_)
+            | Item::Moved(_)
+            | Item::Two(_)
+            | Item::TwoList(_)
+            | Item::FixedBatch(_)
+    )
 }
 
 fn texts_of_each_sort_are_tried(tally: &Tally) {
@@ -142,6 +160,11 @@ fn items_are_repeated_by_their_names() {
         Some(Item::FixedBatch(2))
     );
     assert_eq!(Item::from_words("report", 3), Some(Item::Report(3)));
+    assert_eq!(Item::from_words("moved", 4), Some(Item::Moved(4)));
+    assert_eq!(Item::from_words("move", 5), Some(Item::Move(5)));
+    assert_eq!(Item::from_words("fixed-move", 6), Some(Item::FixedMove(6)));
+    assert_eq!(Item::from_words("two", 7), Some(Item::Two(7)));
+    assert_eq!(Item::from_words("two-list", 8), Some(Item::TwoList(8)));
     assert_eq!(Item::from_words("other", 4), None);
 }
 

@@ -4,6 +4,7 @@ use Rattle.std.specs.Prelude.{None}
 use Rattle.std.proofs.lemmas.Result.{err_from_is_err_and, IfOk-at_ok}
 use Rattle.refusals.specs.Reasons.{answer_of, refusal_in}
 use Rattle.cut_rule.specs.Parts.{rule_line}
+use Rattle.whole_run.specs.Parts.{other_rule}
 use Rattle.layout_call.specs.declared.accepted.Accepted.{Accepted}
 use Rattle.file.proofs.Steps.{check_refused}
 use Rattle.file.proofs.format_file.Goals as goal
@@ -11,7 +12,7 @@ use Rattle.file.proofs.format_file.Goals as goal
 pub returns-in_err-file : goal.returns-in_err-file
 returns-in_err-file c =
     let p = err_from_is_err_and c.from_residual-in_err-file.result c.from_residual-in_err-file.ensures.1 in
-    let ruled : rule_line c.args.choice.rule ≡ None = sym c.rule_chosen.ensures ∙ ap refusal_in c.in_ok-rule_chosen.was in
+    let ruled : rule_line (other_rule c.args.image.now c.args.choice.rule) c.args.choice.rule ≡ None = sym c.rule_chosen.ensures ∙ ap refusal_in c.in_ok-rule_chosen.was in
     rw (p.1, p.2) (check_refused _ _ _ ruled _ _ (sym c.check.ensures.answer ∙ ap (answer_of (λ (a : Accepted). a.doc)) c.in_err-file.was))
 
 pub returns : goal.returns

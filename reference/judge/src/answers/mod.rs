@@ -4,6 +4,7 @@
 pub mod batches;
 pub mod calls;
 pub mod frames;
+pub mod moves;
 pub mod replay;
 pub mod report;
 pub mod steps;

@@ -3,11 +3,12 @@
 
 use std::{collections::BTreeMap, fmt::Write};
 
-use super::{batches, calls, frames, steps, stored};
+use super::{batches, calls, frames, moves, steps, stored};
 use crate::{
     batch::{self, ROW},
     calls::{self as layout_and_rendering, Call, Given},
     generate::{self, CallCase},
+    moves::moved,
     program::{self, Widths},
     steps as writer,
 };
@@ -51,6 +52,27 @@ pub fn steps_output() -> String {
     }
     put_numbers(&mut out, "lists of steps", &numbers);
     put_end(&mut out, "lists of steps", numbers.values().sum());
+    out
+}
+
+/// The images to move with their answers.
+pub fn moves_input() -> Vec<u8> {
+    let all = stored::moves().into_iter();
+    all.flat_map(|(way, case)| moves::answered(way, &case))
+        .collect()
+}
+
+/// How often each answer to an image to move is given, and that none differs.
+pub fn moves_output() -> String {
+    let mut out = String::new();
+    let mut numbers = Numbers::new();
+    for (way, case) in stored::moves() {
+        let answer = moved(way, &case.source, &case.image, usize::MAX);
+        let number = answer.err().map_or(0, |refusal| refusal.number);
+        *numbers.entry(number).or_default() += 1;
+    }
+    put_numbers(&mut out, "moves", &numbers);
+    put_end(&mut out, "moves", numbers.values().sum());
     out
 }
 

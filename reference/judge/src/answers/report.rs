@@ -27,7 +27,7 @@ const SMALL: usize = 4_098;
 const SMALL_ONES: [&str; 4] =
     ["nothing", "shebang", "comment-alone", "import-nothing"];
 
-/// The sample: twelve files, and the first bytes of one more.
+/// The sample: thirteen files, and the first bytes of one more.
 pub fn sample() -> Vec<u8> {
     let files = files();
     let whole = files.iter().flat_map(|frame| framed(parts(frame)));
@@ -53,7 +53,7 @@ pub fn input() -> Vec<u8> {
     let small = SMALL_ONES.map(|name| framed(parts(&known(name))));
     let whole = files.iter().flat_map(|frame| framed(parts(frame)));
     let small = (0..SMALL).flat_map(|i| small[i % small.len()].clone());
-    let refused = framed(parts(&known("version-2")));
+    let refused = framed(parts(&known("version-3")));
     let last = refused.into_iter().chain(cut(&files[0]));
     whole.chain(long).chain(small).chain(last).collect()
 }
@@ -71,7 +71,7 @@ fn cut(frame: &[u8]) -> Vec<u8> {
 }
 
 /// As frames of the program `rotofmt`, whose limit some may pass.
-fn files() -> [Vec<u8>; 12] {
+fn files() -> [Vec<u8>; 13] {
     let empty = examples::of_source("", vec![], vec![]);
     let import = |span| node(16, span, [None, None]);
     let of_one = |source, comments, tree| {
@@ -83,7 +83,7 @@ fn files() -> [Vec<u8>; 12] {
         known("shebang"),
         // Refused by 2, 3 and 4.
         [&[0, 0, 0, 2, b'x', 0xFF], &empty[4..]].concat(),
-        known("version-2"),
+        known("version-3"),
         of_one("", vec![], node(99, 0..0, [])),
         script::frame(WIDE).expect("a script"),
         // Refused by 6, 7 and 8.
@@ -91,6 +91,8 @@ fn files() -> [Vec<u8>; 12] {
         of_one("x", vec![1..1], import(0..0)),
         too_many_rows(),
         known("comment-alone"),
+        // Refused by 20.
+        known("version-2"),
         generate::frame(Class::Realistic, 4, 0),
     ]
 }

@@ -3,15 +3,17 @@
 
 use std::collections::{BTreeMap, BTreeSet};
 
-use super::{batches, calls};
+use super::{batches, calls, moves};
 use crate::{
     examples, frame,
-    generate::{self, BatchCase, CallCase, Class},
+    generate::{self, BatchCase, CallCase, Class, MoveCase},
+    moves::{Way, moved},
     steps::{self, Cause},
 };
 
-/// Document 01's worked frames, by their names in `examples`.
-pub const WORKED: [&str; 2] = ["shebang", "version-2"];
+/// Document 01's worked frames, and the one that request 9 speaks of, by their
+/// names in `examples`.
+pub const WORKED: [&str; 3] = ["shebang", "version-3", "version-2"];
 
 /// Class, seed, frames tried, and the most bytes of a frame that is kept.
 pub const FRAMES: [(Class, u64, u64, usize); 8] = [
@@ -29,7 +31,7 @@ pub const FRAMES: [(Class, u64, u64, usize); 8] = [
 /// list with its answers that is kept.
 type Lists = (fn(u64, u64) -> CallCase, u64, u64, usize);
 
-pub const LISTS: [Lists; 6] = [
+pub const LISTS: [Lists; 7] = [
     (generate::call_case, 1, 900, 4_000),
     (generate::cut_case, 1, 150, 10_000),
     (generate::foot_case, 1, 180, 2_200),
@@ -37,6 +39,7 @@ pub const LISTS: [Lists; 6] = [
     // Its only one is a source too long.
     (generate::unreadable_case, LONG, 1, 70_000),
     (generate::rule_case, 1, 120, 2_000),
+    (generate::two_case, 1, 300, 2_000),
 ];
 
 /// A seed under which the first source is one byte too long.
@@ -51,6 +54,14 @@ pub const STEP_LISTS_EACH: [usize; 2] = [5, 20];
 
 /// The most bytes of a batch with its answer that is kept.
 pub const BATCH: usize = 12_000;
+
+/// The seed of the images to move, how many are tried, and the most bytes of
+/// one with its answer that is kept.
+pub const MOVES: (u64, u64, usize) = (1, 1_500, 1_200);
+
+/// The most images to move that are kept for a refusal in one way, and
+/// accepted.
+pub const MOVES_EACH: [usize; 2] = [4, 12];
 
 pub fn frames() -> impl Iterator<Item = Vec<u8>> {
     let worked = WORKED.map(|name| examples::frame(name).expect("known"));
@@ -91,4 +102,30 @@ pub fn step_lists() -> Vec<Vec<u8>> {
 pub fn batches() -> impl Iterator<Item = &'static BatchCase> {
     let all = generate::fixed_batches().iter().map(|case| &case.batch);
     all.filter(|batch| batches::answered(batch).len() <= BATCH)
+}
+
+/// The fixed list of images to move, without the long ones, and a few more for
+/// each answer; each in the way in which it is tried.
+pub fn moves() -> Vec<(Way, MoveCase)> {
+    let (seed, count, most) = MOVES;
+    let fixed = generate::move_cases().iter().map(|case| case.of.clone());
+    let made = (0..count).map(|index| generate::move_case(seed, index));
+    let mut kept: BTreeMap<(bool, u8), usize> = BTreeMap::new();
+    let mut stored = Vec::new();
+    let all = fixed.map(|case| (true, case));
+    for (fixed, case) in all.chain(made.map(|case| (false, case))) {
+        for way in [Way::Forward, Way::Back] {
+            let answer = moved(way, &case.source, &case.image, usize::MAX);
+            let number = answer.err().map_or(0, |refusal| refusal.number);
+            let key = (way == Way::Forward, number);
+            let each = MOVES_EACH[usize::from(number == 0)];
+            let known = kept.entry(key).or_default();
+            let short = moves::answered(way, &case).len() <= most;
+            if short && (fixed || *known < each) {
+                *known += usize::from(!fixed);
+                stored.push((way, case.clone()));
+            }
+        }
+    }
+    stored
 }

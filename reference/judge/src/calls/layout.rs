@@ -35,7 +35,7 @@ pub fn layout_call(
     mode: usize,
     rule: usize,
 ) -> Result<Answer, Refusal> {
-    rule::check(rule)?;
+    rule::check_for(rule, given.image)?;
     let accepted = reader::read(given.source, given.image)?;
     check_state(world, &accepted, stop, close)?;
     check_mode(&world.laying, mode)?;

@@ -33,7 +33,7 @@ pub fn render_call(
     room: usize,
     page: Page,
 ) -> Result<Answer, Refusal> {
-    rule::check(page.rule)?;
+    rule::check_for(page.rule, given.image)?;
     reader::check_source_length(given.source)?;
     if page.rule != rule::SUPPLIED {
         reader::check_encoding(given.source)?;

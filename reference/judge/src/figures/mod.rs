@@ -173,8 +173,8 @@ pub struct Counted {
     pub fraction: Fraction,
 }
 
-/// Counts one file more, with the program's rows, marks and output: document
-/// 01's refusals, then 14.
+/// Counts one file more, with the program's rows, marks and output: 20 for a
+/// first byte 2, document 01's refusals, then 14.
 pub fn count(frame: Frame, tallies: &Tallies) -> Result<Counted, Refusal> {
     let run = program::within_limits(frame, Widths::Supplied)?;
     if !tallies.accept_one_more() {

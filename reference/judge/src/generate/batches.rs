@@ -2,7 +2,8 @@
 //! and what is chosen for them.
 
 use super::{
-    broad, damaged, edges, feet, modes, realistic, rules, sizes, widths, wild,
+    broad, damaged, edges, feet, modes, moves, realistic, rules, sizes,
+    widths, wild,
 };
 use crate::{
     batch::MOST_FILES,
@@ -92,7 +93,8 @@ pub(super) fn file(random: &mut Random, choice: Choice) -> Vec<u8> {
             26..32 => broad::draft(random, choice).frame(),
             32..44 => feet::draft(random).frame(),
             44..52 => realistic::draft(random).frame(),
-            52..60 => realistic::short_draft(random).frame(),
+            52..58 => realistic::short_draft(random).frame(),
+            58..60 => moves::in_two(random),
             _ => return short(random),
         };
         // Damage may have reached the frame's own length.

@@ -60,26 +60,45 @@ fn frame_of_bad_source(random: &mut Random, draft: &Draft) -> Vec<u8> {
 /// Damage that takes no notice of records.
 fn frame_of_bad_bytes(random: &mut Random, draft: &Draft) -> Vec<u8> {
     let mut image = draft.image();
-    let last = image.len() - 1;
     match random.below(9) {
+        7 => return frame_of_bad_length(random, draft, &image),
+        way => damage_image(random, &draft.source, &mut image, way),
+    }
+    frame::join(draft.source.as_bytes(), &image)
+}
+
+/// Damages the bytes of an image of either version in one of eight ways.
+pub(super) fn damage_image(
+    random: &mut Random,
+    source: &str,
+    image: &mut Vec<u8>,
+    way: usize,
+) {
+    let last = image.len() - 1;
+    match way {
         0 => image[0] = *random.pick(&[0, 2, 3, 255]),
         // The last byte of the body's length, and of the comment count.
-        1 => nudge(random, &mut image, 4),
-        2 => nudge(random, &mut image, 6),
+        1 => nudge(random, image, 4),
+        2 => nudge(random, image, 6),
         3 => image.truncate(random.between(0, last)),
         4 => {
             let end = random.between(5, last);
-            image = image::with_header(&image[5..end]);
+            *image = with_body(image, &image[5..end]);
         }
         5 => {
             let spare = vec![0; random.between(1, 15)];
-            image = image::with_header(&[&image[5..], &spare].concat());
+            *image = with_body(image, &[&image[5..], &spare].concat());
         }
-        6 => nudge_a_length(random, draft, &mut image),
-        7 => return frame_of_bad_length(random, draft, &image),
-        _ => flip(random, &mut image),
+        6 => nudge_a_length(random, source, image),
+        _ => flip(random, image),
     }
-    frame::join(draft.source.as_bytes(), &image)
+}
+
+/// Another body behind an image's first byte.
+fn with_body(image: &[u8], body: &[u8]) -> Vec<u8> {
+    let mut other = image::with_header(body);
+    other[0] = image[0];
+    other
 }
 
 /// Adds or takes one at a byte, if it is there.
@@ -93,9 +112,9 @@ fn nudge(random: &mut Random, image: &mut [u8], at: usize) {
 }
 
 /// Adds or takes one at the last byte of a record's length.
-fn nudge_a_length(random: &mut Random, draft: &Draft, image: &mut [u8]) {
+fn nudge_a_length(random: &mut Random, source: &str, image: &mut [u8]) {
     let mut lengths = Vec::new();
-    if let Ok(accepted) = reader::read(draft.source.as_bytes(), image) {
+    if let Ok(accepted) = reader::read(source.as_bytes(), image) {
         accepted
             .tree
             .walk(&mut |record| lengths.push(record.at + 3));

@@ -8,6 +8,8 @@ mod edges;
 mod feet;
 mod lists;
 mod modes;
+mod move_cases;
+mod moves;
 mod random_rows;
 mod ranges;
 mod realistic;
@@ -37,6 +39,8 @@ pub use feet::frame as foot_frame;
 pub use lists::{
     CallCase, case as call_case, cut_case, foot_case, unreadable_case,
 };
+pub use move_cases::{Case as FixedMove, cases as move_cases};
+pub use moves::{Case as MoveCase, case as move_case, two_case, two_frame};
 pub use ranges::{RangeCase, case as range_case};
 pub use rendering::cases as rendering_cases;
 pub use report_inputs::input as report_input;

@@ -70,7 +70,7 @@ pub fn case(seed: u64, index: u64) -> CallCase {
 
 /// Rules for the calls and for states that aren't fresh. Rendering may go by
 /// another than layout.
-fn with_rules(
+pub(super) fn with_rules(
     random: &mut Random,
     mut case: CallCase,
     laid: usize,

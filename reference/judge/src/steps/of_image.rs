@@ -5,13 +5,14 @@ use std::ops::Range;
 
 use super::Step;
 use crate::{
-    reader::{self, Payload, Record},
+    reader::{self, Payload, Record, Version},
     refusal::Refusal,
 };
 
-/// The steps of an image that is read with its source; refusals 1 to 7.
+/// The steps of an image of version 1 that is read with its source; refusals
+/// 1 to 7.
 pub fn of_image(source: &[u8], image: &[u8]) -> Result<Vec<Step>, Refusal> {
-    let read = reader::read(source, image)?;
+    let read = reader::read_version(source, image, Version::One)?;
     let comments = read.comments.iter().map(|comment| {
         let (start, end) = numbers(comment);
         Step::Comment { start, end }
@@ -30,6 +31,7 @@ pub fn of_record(steps: &mut Vec<Step>, record: &Record) {
         Payload::Nothing => {}
         Payload::Byte(byte) => steps.push(Step::Payload(byte)),
         Payload::Text { width, text } => {
+            let width = width.expect("an image of version 1");
             let text = text.into();
             steps.push(Step::Text { width, text });
         }

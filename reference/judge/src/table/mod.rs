@@ -1,6 +1,7 @@
 //! How often generated frames reach each case of document 01.
 
 mod batches;
+mod moves;
 mod report;
 mod step_lists;
 
@@ -18,6 +19,7 @@ use crate::{
 };
 
 use batches::BatchCounts;
+use moves::MoveCounts;
 use step_lists::StepCounts;
 
 #[derive(Default)]
@@ -54,9 +56,14 @@ pub fn table(seed: u64, count: u64) -> String {
     for index in 0..count {
         all.add_calls(&generate::call_case(seed, index));
         all.add_calls(&generate::rule_case(seed, index));
+        all.add_calls(&generate::two_case(seed, index));
     }
-    writeln!(out, "- lists of calls: {count}, and as many with rules")
-        .unwrap();
+    writeln!(
+        out,
+        "- lists of calls: {count}, as many with rules, and as many on \
+         images of version 2"
+    )
+    .unwrap();
     let mut lists = StepCounts::default();
     for case in generate::step_size_cases() {
         lists.add(&case.list);
@@ -68,7 +75,13 @@ pub fn table(seed: u64, count: u64) -> String {
     writeln!(out, "- lists of steps: {count}, and {sizes} sizes").unwrap();
     let (batches, fixed) = BatchCounts::generated(seed, count);
     writeln!(out, "- batches: {count}, and {fixed} fixed ones").unwrap();
-    out + &all.report() + &lists.report(false) + &batches.report(false)
+    let (moves, fixed) = MoveCounts::generated(seed, count);
+    writeln!(out, "- images to move: {count}, and {fixed} fixed ones")
+        .unwrap();
+    out + &all.report()
+        + &lists.report(false)
+        + &batches.report(false)
+        + &moves.report(false)
 }
 
 /// The same table over the stored frames and lists.
@@ -100,7 +113,12 @@ pub fn stored() -> String {
     writeln!(out, "- lists of steps: {count}, {bytes} bytes").unwrap();
     let (batches, count, bytes) = BatchCounts::stored();
     writeln!(out, "- batches: {count}, {bytes} bytes").unwrap();
-    out + &all.report() + &lists.report(true) + &batches.report(true)
+    let (moves, count, bytes) = MoveCounts::stored();
+    writeln!(out, "- moves: {count}, {bytes} bytes").unwrap();
+    out + &all.report()
+        + &lists.report(true)
+        + &batches.report(true)
+        + &moves.report(true)
 }
 
 impl Counts {

@@ -97,7 +97,7 @@ impl Counts {
     fn report_refusals(&self, out: &mut String) {
         heading(out, "Answers of the program", "Refusal");
         line(out, "accepted", self.refusals.get(&0));
-        for number in 1..=13 {
+        for number in (1..=13).chain([20]) {
             let why = NEVER.iter().find(|(never, _)| *never == number);
             let name = match why {
                 Some((_, why)) => format!("{number} (unreachable: {why})"),

@@ -5,10 +5,10 @@ use std::{env, process::ExitCode, time::Instant};
 use port::compare::{Item, Plan, Tally, one};
 
 const USAGE: &str = "\
-usage: compare SEED FRAMES [LISTS [FILES [STEPS [BATCHES [REPORTS]]]]]
+usage: compare SEED FRAMES [LISTS [FILES [STEPS [BATCHES [REPORTS [MOVES]]]]]]
            FRAMES frames of each class, with widths, with comments at the foot and with wide characters, LISTS lists of calls of each sort,
            FILES files counted, STEPS images to steps and back, and as many lists of steps, BATCHES batches,
-           REPORTS inputs of the program report
+           REPORTS inputs of the program report, MOVES images forward to version 2 and back, and as many of version 2
        compare KIND SEED INDEX
            one of them again; KIND as a difference names it
 ";
@@ -49,18 +49,20 @@ fn compare(words: &[&str]) -> Option<Tally> {
             steps: more(2),
             batches: more(3),
             reports: more(4),
+            moves: more(5),
         };
         println!(
             "{} frames of each class, with widths, with comments at the \
              foot and with wide characters, {} lists of each sort, {} files counted, {} images to \
-             steps and back, {} lists of steps, {} batches, {} reports",
+             steps and back, {} lists of steps, {} batches, {} reports, {} images forward and back",
             plan.frames,
             plan.lists,
             plan.files,
             plan.steps,
             plan.steps,
             plan.batches,
-            plan.reports
+            plan.reports,
+            plan.moves
         );
         return Some(plan.run());
     }

@@ -6,7 +6,7 @@ use std::{env, fs, process::ExitCode};
 use judge::reader;
 use port::measure::{self, Line, both, inputs};
 #[cfg(feature = "calls")]
-use port::measure::{batches, documents, steps};
+use port::measure::{batches, documents, moves, steps};
 
 fn main() -> ExitCode {
     let paths: Vec<String> = env::args().skip(1).collect();
@@ -21,6 +21,8 @@ fn main() -> ExitCode {
     {
         lines.extend(inputs::all().iter().flat_map(steps::of_files));
         lines.extend(batches::of_files(&inputs::saves()));
+        let moved = inputs::all().into_iter().chain([inputs::japanese()]);
+        lines.extend(moved.flat_map(|input| moves::of_files(&input)));
         let documents = documents::growing();
         lines.extend(documents.into_iter().map(steps::rendering));
         lines.extend(by_rules());

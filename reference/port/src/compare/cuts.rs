@@ -38,8 +38,17 @@ pub fn compare(tally: &mut Tally, class: &str, frame: Frame, width: usize) {
 }
 
 /// Modes with rules: supplied widths in both modes, and Unicode's two editions
-/// in one each, which is another for images of an odd length.
+/// in one each, which is another for images of an odd length. For a first byte 2
+/// Unicode 16.0 in both modes, which alone isn't refused.
 fn ways(image: &[u8]) -> [(usize, usize); 4] {
+    if image.first() == Some(&2) {
+        return [
+            (OLD, SUPPLIED),
+            (NEW, UNICODE_15_1),
+            (OLD, UNICODE_16_0),
+            (NEW, UNICODE_16_0),
+        ];
+    }
     let [mut one, mut other] = [UNICODE_15_1, UNICODE_16_0];
     if image.len() % 2 == 1 {
         (one, other) = (other, one);
@@ -270,8 +279,18 @@ impl Cut<'_> {
     /// no cell is changed.
     fn other_rule(&mut self, state: &LayoutState) -> Option<()> {
         let stop = state.next_declaration;
-        let (other, number) = other_rule(self.choice.rule, stop);
+        let (other, number) = self.other(stop);
         self.refused_layout(state, [self.choice.mode, other], number)
+    }
+
+    /// A rule that isn't the carried one, by turns, and what refuses it: for a
+    /// first byte 2 always 20.
+    fn other(&self, turn: usize) -> (usize, u8) {
+        let (other, number) = other_rule(self.choice.rule, turn);
+        match self.given.image.first() {
+            Some(2) => (other, 20),
+            _ => (other, number),
+        }
     }
 
     /// A layout call that lays nothing, closes at the end, and is refused for
@@ -403,7 +422,7 @@ impl Cut<'_> {
     /// Another rule than the carried one: 12, or 20 where it isn't legal, and
     /// nothing is changed.
     fn other_page(&mut self, state: &RenderState, stop: usize) -> Option<()> {
-        let (rule, number) = other_rule(self.choice.rule, stop);
+        let (rule, number) = self.other(stop);
         let page = Page {
             rule,
             ..self.page()

@@ -20,6 +20,10 @@ pub(super) struct File {
 }
 
 impl File {
+    pub(super) fn class(&self) -> &str {
+        self.name.split(' ').next().unwrap_or_default()
+    }
+
     pub(super) fn frame(&self) -> Frame<'_> {
         frame::split_any_size(&self.bytes).expect("chosen so")
     }
@@ -100,18 +104,23 @@ fn count_one(
     got
 }
 
-/// A frame of any class; of the sizes, which are large, few. 13 isn't for
-/// files.
+/// A frame of any class or of version 2; of the sizes, which are large, few. 13
+/// isn't for files.
 pub(super) fn file(random: &mut Random, seed: u64) -> File {
     loop {
+        let index = random.below(1 << 20) as u64;
         let class = match random.below(100) {
+            40 | 41 => {
+                let name = format!("two {seed} {index}");
+                let bytes = generate::two_frame(seed, index);
+                return File { name, bytes };
+            }
             0 => Class::Sizes,
             1..15 => Class::Damaged,
             15..40 => Class::Wild,
             40..70 => Class::Edges,
             _ => Class::Realistic,
         };
-        let index = random.below(1 << 20) as u64;
         let bytes = generate::frame(class, seed, index);
         if frame::split_any_size(&bytes).is_ok() {
             let name = format!("{} {seed} {index}", class_name(class));

@@ -12,7 +12,7 @@ pub fn compare(tally: &mut Tally, seed: u64, index: u64) {
     let Frame { source, image } = file.frame();
     let due = steps::read(source, image, usize::MAX);
     let number = due.as_ref().err().map_or(0, |refusal| refusal.number);
-    let class = file.name.split(' ').next().unwrap_or_default();
+    let class = file.class();
     tally.count(&format!("images to steps, {class}"), number);
     let what = format!("steps of {}", file.name);
     rooms::compare(tally, &what, &due, |output| {

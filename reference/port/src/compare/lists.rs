@@ -9,7 +9,7 @@ use judge::{
     mode::NEW,
     random::Random,
     refusal::Refusal,
-    rule::SUPPLIED,
+    rule::{SUPPLIED, UNICODE_16_0},
     width::REFERENCE,
 };
 
@@ -77,7 +77,11 @@ impl<'l> List<'l> {
             carried => carried,
         };
         let width = chosen(rendering.width, REFERENCE);
-        let rule = chosen(rendering.rule, SUPPLIED);
+        let rule = match self.given.image.first() {
+            Some(2) => UNICODE_16_0,
+            _ => SUPPLIED,
+        };
+        let rule = chosen(rendering.rule, rule);
         let left = self.contents.is_some() && rendering.next_row < stop;
         left.then(|| {
             let one = |room| Call::Render {

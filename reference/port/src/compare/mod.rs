@@ -16,6 +16,8 @@ mod large;
 #[cfg(feature = "calls")]
 mod lists;
 #[cfg(feature = "calls")]
+mod moves;
+#[cfg(feature = "calls")]
 mod points;
 #[cfg(feature = "calls")]
 mod ranges;

@@ -85,6 +85,20 @@ pub enum Item {
     /// An input of the program `report`.
     #[cfg(feature = "calls")]
     Report(u64),
+    /// An image forward to version 2 and back.
+    #[cfg(feature = "calls")]
+    Moved(u64),
+    /// An image of either version to move, damaged or not.
+    #[cfg(feature = "calls")]
+    Move(u64),
+    /// An image of the fixed list to move.
+    #[cfg(feature = "calls")]
+    FixedMove(usize),
+    /// A file of version 2.
+    Two(u64),
+    /// A list on an image of version 2.
+    #[cfg(feature = "calls")]
+    TwoList(u64),
 }
 
 /// All items of a run: so many frames of each class but `sizes`, as many
@@ -94,7 +108,10 @@ pub enum Item {
 /// them on files with such comments and with rules. With lists come the
 /// largest stores and all code points. Last, so many files to count, so many
 /// images to steps and back with as many lists of steps, so many batches, with
-/// which comes their fixed list, and so many inputs of the program `report`.
+/// which comes their fixed list, so many inputs of the program `report`, and so
+/// many images forward to version 2 and back, with as many that may be damaged,
+/// as many files and a fifth as many lists of calls on images of version 2, and
+/// a fixed list of images to move.
 #[derive(Clone, Copy, Debug)]
 pub struct Plan {
     pub seed: u64,
@@ -104,6 +121,7 @@ pub struct Plan {
     pub steps: u64,
     pub batches: u64,
     pub reports: u64,
+    pub moves: u64,
 }
 
 const CLASSES: [Class; 4] =
@@ -161,7 +179,25 @@ impl Plan {
         items.extend(self.batch_items());
         #[cfg(feature = "calls")]
         items.extend((0..self.reports).map(Item::Report));
+        items.extend((0..self.moves).map(Item::Two));
+        #[cfg(feature = "calls")]
+        items.extend(self.move_items());
         items
+    }
+
+    #[cfg(feature = "calls")]
+    fn move_items(&self) -> impl Iterator<Item = Item> {
+        /// Images for a list of calls.
+        const EACH: u64 = 5;
+        let fixed = match self.moves {
+            0 => 0,
+            _ => generate::move_cases().len(),
+        };
+        let fixed = (0..fixed).map(Item::FixedMove);
+        let lists = (0..self.moves.div_ceil(EACH)).map(Item::TwoList);
+        let moved = (0..self.moves).map(Item::Moved);
+        let moves = (0..self.moves).map(Item::Move);
+        fixed.chain(moved).chain(moves).chain(lists)
     }
 
     #[cfg(feature = "calls")]
@@ -332,6 +368,23 @@ fn compare(tally: &mut Tally, item: Item, seed: u64) {
         }
         #[cfg(feature = "calls")]
         Item::Report(index) => super::reports::compare(tally, seed, index),
+        #[cfg(feature = "calls")]
+        Item::Moved(index) => super::moves::compare(tally, seed, index),
+        #[cfg(feature = "calls")]
+        Item::Move(index) => super::moves::compare_case(tally, seed, index),
+        #[cfg(feature = "calls")]
+        Item::FixedMove(place) => {
+            super::moves::compare_fixed(tally, place);
+        }
+        Item::Two(index) => {
+            let bytes = generate::two_frame(seed, index);
+            frames::compare(tally, "version 2", &bytes, REFERENCE);
+        }
+        #[cfg(feature = "calls")]
+        Item::TwoList(index) => {
+            let case = generate::two_case(seed, index);
+            super::lists::compare(tally, "lists, version 2", &case);
+        }
     }
 }
 
@@ -407,6 +460,15 @@ fn name(item: Item, seed: u64) -> String {
         Item::FixedBatch(place) => ("fixed-batch", place as u64),
         #[cfg(feature = "calls")]
         Item::Report(index) => ("report", index),
+        #[cfg(feature = "calls")]
+        Item::Moved(index) => ("moved", index),
+        #[cfg(feature = "calls")]
+        Item::Move(index) => ("move", index),
+        #[cfg(feature = "calls")]
+        Item::FixedMove(place) => ("fixed-move", place as u64),
+        Item::Two(index) => ("two", index),
+        #[cfg(feature = "calls")]
+        Item::TwoList(index) => ("two-list", index),
     };
     format!("{kind} {seed} {index}")
 }
@@ -457,6 +519,15 @@ impl Item {
             "fixed-batch" => Some(Item::FixedBatch(index as usize)),
             #[cfg(feature = "calls")]
             "report" => Some(Item::Report(index)),
+            #[cfg(feature = "calls")]
+            "moved" => Some(Item::Moved(index)),
+            #[cfg(feature = "calls")]
+            "move" => Some(Item::Move(index)),
+            #[cfg(feature = "calls")]
+            "fixed-move" => Some(Item::FixedMove(index as usize)),
+            "two" => Some(Item::Two(index)),
+            #[cfg(feature = "calls")]
+            "two-list" => Some(Item::TwoList(index)),
             _ => Class::from_name(kind).map(|c| Item::Frame(c, index)),
         }
     }

@@ -5,6 +5,8 @@ pub mod batches;
 #[cfg(feature = "calls")]
 pub mod documents;
 pub mod inputs;
+#[cfg(feature = "calls")]
+pub mod moves;
 #[cfg(feature = "formatter")]
 mod saves;
 #[cfg(feature = "calls")]

@@ -23,7 +23,7 @@ use super::{
     Line, batches, both,
     documents::{self, Document, Empty},
     inputs::{File, Input},
-    stack,
+    moves, stack,
 };
 
 /// A file of the port: what it is given, and its buffers.
@@ -394,7 +394,7 @@ const RULES: &[(usize, [&str; 2])] = if cfg!(feature = "stand-in") {
 };
 
 /// The stack that rendering takes on large documents and at every depth, and
-/// the whole run, a batch and a count on trees as deep as trees get.
+/// the whole run, a batch, a count and the moves on trees as deep as trees get.
 pub fn stack() -> Vec<StackLine> {
     let mut lines = Vec::new();
     for (rule, [rendering, _]) in RULES {
@@ -492,6 +492,7 @@ fn stack_of_runs(case: &SizeCase) -> Vec<StackLine> {
         black_box(counted.expect("room for it"));
     });
     lines.extend([batches::stack_of(case, rows), line("count", count)]);
+    lines.extend(moves::stack_of(case, rows));
     lines
 }
 

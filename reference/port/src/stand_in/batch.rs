@@ -9,7 +9,7 @@ use judge::{
     refusal::{Refusal, refusal},
 };
 
-use super::{Fault, planted, put, put_refusal, respoken};
+use super::{Fault, moves, planted, put, put_refusal, respoken};
 
 /// A batch.
 pub fn batch(
@@ -127,7 +127,8 @@ impl Saves {
         for file in files {
             let Frame { source, image } = *file;
             let given = Given { source, image };
-            let text = batch::single(*file, choice);
+            let rule = moves::batched(image, choice.rule);
+            let text = batch::single(*file, Choice { rule, ..choice });
             saves.add(text.map(|text| respoken(given, text.into())));
         }
         saves

@@ -11,7 +11,7 @@ use judge::{
     rule::{self, SUPPLIED, UNICODE_15_1, UNICODE_16_0},
 };
 
-use super::{Fault, PLANTED, planted, put, put_refusal};
+use super::{Fault, PLANTED, moves::two, planted, put, put_refusal};
 
 type Answered = Result<Answer, Refusal>;
 
@@ -26,6 +26,16 @@ pub fn check(given: Given, rule: usize) -> Result<(), Refusal> {
         reader::read(given.source, given.image)?;
     }
     rule::check(looked_at(rule))
+}
+
+/// What refuses a rule of a whole file, with the first byte of its image.
+pub fn check_whole(given: Given, rule: usize) -> Result<(), Refusal> {
+    check(given, rule)?;
+    let by = two(given, rule)?;
+    match planted(Fault::TwoInWhole) || by != rule {
+        true => Ok(()),
+        false => rule::check_for(looked_at(rule), given.image),
+    }
 }
 
 /// A rule as it is read.
@@ -61,7 +71,7 @@ pub fn lay_out(
         return layout_call(given, world, stop, close, mode, rule);
     }
     check(given, rule)?;
-    let rule = looked_at(rule);
+    let rule = two(given, looked_at(rule))?;
     let before = world.clone();
     let laying = &mut world.laying;
     let forgets = planted(Fault::LayoutRuleNotKept) && laying.begun
@@ -123,7 +133,10 @@ pub fn render(
         return render_call(given, world, stop, room, page);
     }
     early(given, page.rule)?;
-    let rule = looked_at(page.rule);
+    let mut rule = two(given, looked_at(page.rule))?;
+    if planted(Fault::TwoRendered) && given.image.first() == Some(&2) {
+        rule = UNICODE_16_0;
+    }
     let page = Page { rule, ..page };
     if planted(Fault::RenderRuleNotKept) {
         world.rendering.rule = 0;

@@ -5,7 +5,7 @@ use judge::{
     steps::{self, Cause, Step, follow},
 };
 
-use super::{Fault, planted, put, put_refusal};
+use super::{Fault, moves::with_steps, planted, put, put_refusal};
 
 /// An image from steps.
 pub fn write(steps: &[u8], output: &mut [u8], out: &mut [u64; 2]) {
@@ -75,7 +75,8 @@ pub fn steps(
     if planted(Fault::StepsRoomFirst) && output.is_empty() {
         return put_refusal(out, refusal(17, image.len()));
     }
-    match steps::read(source, image, output.len()) {
+    let image = with_steps(source, image);
+    match steps::read(source, &image, output.len()) {
         Ok(mut list) => {
             spoil_last(&mut list, Fault::StepByte);
             put_bytes(output, &list, out);

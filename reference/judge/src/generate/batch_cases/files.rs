@@ -2,9 +2,11 @@
 
 use super::super::sizes;
 use crate::{
-    examples,
+    batch, examples,
     frame::{self, Frame, framed},
     image::{self, Tree, chosen, node, text},
+    moves,
+    reader::{self, Version},
 };
 
 pub type File = Vec<u8>;
@@ -15,6 +17,19 @@ pub const NO_BYTES: [u8; 8] = [0; 8];
 /// A file of document 01.
 pub fn known(name: &str) -> File {
     of_frame(&examples::frame(name).expect("known"))
+}
+
+/// A file with this image.
+pub fn of_image(source: &[u8], image: &[u8]) -> File {
+    framed(Frame { source, image })
+}
+
+/// A file of the list with its image in version 2, whatever its widths.
+pub fn in_two(file: &File) -> File {
+    let files = batch::split(file).expect("a file");
+    let Frame { source, image } = files[0];
+    let read = reader::read(source, image).expect("accepted");
+    of_image(source, &moves::rewritten(&read, Version::Two))
 }
 
 /// A size of document 01.

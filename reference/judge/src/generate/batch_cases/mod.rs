@@ -13,7 +13,10 @@ use crate::{
     rule::{LEGAL, SUPPLIED},
     width::REFERENCE,
 };
-use files::{File, NO_BYTES, japanese, known, names, of_size, refused};
+use files::{
+    File, NO_BYTES, in_two, japanese, known, names, of_image, of_size,
+    refused,
+};
 
 /// A batch with what it shows.
 #[derive(Clone, Debug)]
@@ -30,6 +33,7 @@ pub fn cases() -> &'static [Case] {
         cases.orders();
         cases.choices();
         cases.rules();
+        cases.versions();
         cases.cut_off();
         cases.lengths();
         cases.many();
@@ -174,6 +178,27 @@ impl Cases {
         self.put("no file, rule 4", &[], with(4, Choice::REFERENCE));
         let cut = vec![1, 2];
         self.put("18 and rule 0", &[cut], with(0, Choice::REFERENCE));
+    }
+
+    /// A first byte 2: 20 but by Unicode 16.0, before the file's own refusals
+    /// and those of the choice.
+    fn versions(&mut self) {
+        let files = [
+            known("two-consts"),
+            in_two(&known("two-consts")),
+            in_two(&japanese(4)),
+            known("version-2"),
+            known("version-3"),
+            of_image(b"\xFF", b"\x02"),
+            of_image(b"", b"\x02"),
+        ];
+        for rule in LEGAL {
+            for (width, mode) in [(REFERENCE, NEW), (39, 2)] {
+                let choice = Choice { width, mode, rule };
+                let name = format!("versions, rule {rule}, width {width}");
+                self.put(&name, &files, choice);
+            }
+        }
     }
 
     /// Buffers that end in a frame, the first one or a later one.

@@ -212,13 +212,15 @@ pub fn choices() -> Vec<CallCase> {
     ]
 }
 
-/// Images that are no image, before any row is looked at: refusal 3.
+/// Images that are no image, before any row is looked at: refusal 3, and 20
+/// for a first byte 2.
 pub fn headers() -> Vec<CallCase> {
-    let images: [&[u8]; 6] = [
+    let images: [&[u8]; 7] = [
         b"\x01\0\0\0\x02im",
         b"",
         b"\x01\0\0\0",
         b"\x02\0\0\0\x02im",
+        b"\x03\0\0\0\x02im",
         b"\x01\0\0\0\x02imm",
         b"\x01\0\0\0\x03im",
     ];

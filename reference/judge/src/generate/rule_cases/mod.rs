@@ -28,6 +28,7 @@ pub fn cases() -> Vec<CallCase> {
         rows::illegal(),
         rows::choices(),
         order::encodings(),
+        order::versions(),
         order::causes(),
         layout::sums(),
         layout::turning(),

@@ -4,13 +4,16 @@
 use super::{
     super::{
         CallCase,
-        rendering::parts::{Part, group, pen},
+        rendering::parts::{PLENTY, Part, group, pen},
     },
-    on,
+    on, render,
 };
 use crate::{
     calls::Call,
-    rows::SOURCE,
+    image::{self, Tree, node},
+    mode::OLD,
+    reader::Version,
+    rows::{Row, SOURCE},
     rule::{LEGAL, SUPPLIED, UNICODE_15_1, UNICODE_16_0},
 };
 
@@ -32,6 +35,40 @@ pub fn encodings() -> Vec<CallCase> {
             cases.push(case.clone());
             case.image = b"\x03".to_vec();
             cases.push(case);
+        }
+    }
+    cases
+}
+
+/// A first byte 2 by each rule, with and without what it belongs to, and with a
+/// source that isn't UTF-8: 20 before all else but by Unicode 16.0.
+pub fn versions() -> Vec<CallCase> {
+    let shebang = Tree {
+        payload: b"#!/x \n".to_vec(),
+        ..node(2, 0..0, [])
+    };
+    let tree = node(1, 0..0, [Some(shebang)]);
+    let whole = image::write_as(Version::Two, &[], &tree);
+    let mut cases = Vec::new();
+    for image in [&whole[..], b"\x02", &whole[..9]] {
+        for source in [&b"ab"[..], b"ab\xFF"] {
+            for rule in LEGAL {
+                let layout = Call::Layout {
+                    stop: 0,
+                    close: true,
+                    mode: OLD,
+                    rule,
+                };
+                let mut case = on(&[Part::Ascii([SOURCE, 0, 1])], rule);
+                case.source = source.to_vec();
+                case.image = image.to_vec();
+                cases.push(case.clone());
+                // The shebang, and two lines.
+                let both = [layout, render(rule, 3, PLENTY)];
+                case.world.store = vec![0; 3 * Row::CELLS];
+                case.calls = both.to_vec();
+                cases.push(case);
+            }
         }
     }
     cases

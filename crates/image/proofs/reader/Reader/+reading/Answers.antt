@@ -16,7 +16,7 @@ read_child-read_record-requires t c = (omega arith, omega arith)
 
 pub read_children-loop-here-init : goal.read_children-loop-here-init
 read_children-loop-here-init t c = (
-  record { source = refl; image = refl; width = refl; left = refl; end = refl },
+  record { source = refl; image = refl; left = refl; end = refl },
   record { turns = length c.args.self.now.image.now; enough = omega (arith, c.args.self.now.inside); same = refl },
 )
 
@@ -32,7 +32,7 @@ read_children-returns-in_err-next t c =
     let (due, first) = first_place _ _ c.in-Some.ensures.value in
     passed _ _ _ c.from_residual.ensures.1
     ∙ sym (go_bad _ _ _ _ _ _ (omega (arith, h.end, c.loop-here-test.true)) due
-    (sym (rw (← first, h.source, h.image, h.width, h.left, h.end) at c.read_child.ensures) ∙ ap (answer_of (λ (n : ℕ). n)) c.in_err-next.was)
+    (sym (rw (← first, h.source, h.image, h.left, h.end) at c.read_child.ensures) ∙ ap (answer_of (λ (n : ℕ). n)) c.in_err-next.was)
     c.loop-here.invariant.1)
 
 pub read_children-go_to-requires : goal.read_children-go_to-requires
@@ -48,12 +48,11 @@ read_children-loop-here-preserved t c =
     let h = c.loop-here.invariant.0 in
     let m = c.go_to.ensures in
     let (due, first) = first_place _ _ c.in-Some.ensures.value in
-    let r = rw (← first, h.source, h.image, h.width, h.left, h.end) at c.read_child.ensures in
+    let r = rw (← first, h.source, h.image, h.left, h.end) at c.read_child.ensures in
     let w = child_within _ _ _ _ _ _ _ _ (sym r ∙ ap (answer_of (λ (n : ℕ). n)) c.in_ok-next.was) in (
       record {
         source = m.same.0 ∙ h.source;
         image = m.same.1 ∙ h.image;
-        width = m.rest.3 ∙ h.width;
         left = m.rest.0 ∙ h.left;
         end = m.rest.2 ∙ h.end;
       },
@@ -85,7 +84,6 @@ read_record-invariant_of-inner t c =
       inside = (
         omega (arith, w.first, w.stop, opened_order w.held),
         omega (arith, w.stop, w.held.right.within, c.args.self.now.inside),
-        omega (arith, c.args.self.now.inside),
       );
     }
 

@@ -5,7 +5,7 @@ use Prim.Native.Nat.{ℕ}
 use Rattle.refusals.specs.Reasons.{answer_of}
 use Rattle.refusals.proofs.Passed.{passed}
 use Rattle.image.specs.Kinds.{TEXT}
-use Rattle.image.specs.Read.{opens, step_of}
+use Rattle.image.specs.Read.{width_bytes, opens, step_of}
 use Rattle.image.proofs.Reading.{record_bad, text_read, stop_wrong, stop_right}
 use Rattle.image.proofs.reader.Reader.read_text.Goals as goal
 
@@ -13,7 +13,7 @@ pub returns-then-not-text_fits : goal.returns-then-not-text_fits
 unfolding opens
 returns-then-not-text_fits c =
     let r = c.args.self.now in
-    rw c.at.ensures (sym (ap step_of (record_bad r.source.now r.image.now r.width r.left TEXT r.at r.end 4 r.at
+    rw c.at.ensures (sym (ap step_of (record_bad r.source.now r.image.now (width_bytes r.image.now) r.left TEXT r.at r.end 4 r.at
     (simp (sym c.text_fits.ensures ∙ c.if-not-text_fits.true)))))
 
 pub returns-in_err-stop : goal.returns-in_err-stop

@@ -1,0 +1,10 @@
+pub mod Trees
+pub mod Sought
+pub mod Moved
+pub mod Exact
+pub mod Turned
+pub mod Rows
+pub mod Seeks
+pub mod Payloads
+pub mod Imaged
+pub mod Entries
