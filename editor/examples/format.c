@@ -1,5 +1,6 @@
 /* The first worked example of docs/01-scope.md, formatted; then an image of a version that there is not, which is refused, and one of version 2,
-   which is refused by supplied widths; then the example moved to version 2 and back; then the columns of a text by each rule of widths. */
+   which is refused by supplied widths; then the example moved to version 2 and back; then an archived image with a later comment first; then the
+   columns of a text by each rule of widths. */
 #include <stdio.h>
 #include <string.h>
 #include "rrufthim.h"
@@ -51,6 +52,45 @@ static void moves(void)
     printf("a byte short: refused %lu at %lu\n", (unsigned long)out[0], (unsigned long)out[1]);
 }
 
+/* Lays out and renders the rest of a file that is archived, whose comments may be in any order. */
+static void archived(const uint8_t *source, size_t source_len, const uint8_t *image, size_t image_len)
+{
+    static const uint64_t laid[RRUFTHIM_LAYOUT_STATE], shown[RRUFTHIM_RENDER_STATE]; /* fresh */
+    static const uint64_t all[RRUFTHIM_LAYOUT_ARGS] = {0, 1, RRUFTHIM_ALL_COMMENTS, RRUFTHIM_WIDTHS_SUPPLIED};
+    uint32_t store[8 * RRUFTHIM_ROW];
+    uint8_t marks[8], output[64];
+    uint64_t out[RRUFTHIM_LAYOUT_OUT], rows[RRUFTHIM_RENDER_ARGS] = {0, RRUFTHIM_REFERENCE_WIDTH, RRUFTHIM_WIDTHS_SUPPLIED};
+
+    rrufthim_layout_archived(source, source_len, image, image_len, store, 8 * RRUFTHIM_ROW, laid, all, out);
+    if (out[0] != 0) {
+        printf("refused %lu at %lu\n", (unsigned long)out[0], (unsigned long)out[1]);
+        return;
+    }
+    rows[0] = out[5];
+    rrufthim_render(source, source_len, image, image_len, store, 8 * RRUFTHIM_ROW, marks, sizeof marks, output, sizeof output, shown, rows, out);
+    if (out[0] != 0) {
+        printf("refused %lu at %lu\n", (unsigned long)out[0], (unsigned long)out[1]);
+        return;
+    }
+    fwrite(output, 1, (size_t)out[1], stdout);
+}
+
+/* A file without declarations, whose second comment comes first in the list: refused but by the archive entry. */
+static void order(void)
+{
+    static const uint8_t source[] = {'#', 'a', '\n', '#', 'b', '\n'};
+    static const uint8_t image[] = {
+        1, 0, 0, 0, 0x23, 0, 2,
+        0, 0, 0, 3, 0, 0, 0, 5, 0, 0, 0, 0, 0, 0, 0, 2,
+        0, 0, 0, 0x0D, 1, 0, 0, 0, 0, 0, 0, 0, 0, 0, 0, 0, 0,
+    };
+    uint64_t out[RRUFTHIM_CHECK_OUT];
+
+    rrufthim_check(source, sizeof source, image, sizeof image, out);
+    printf("refused %lu at %lu\n", (unsigned long)out[0], (unsigned long)out[1]);
+    archived(source, sizeof source, image, sizeof image);
+}
+
 /* Two characters of three bytes and two columns each, and of rules one too many. */
 static void columns(void)
 {
@@ -81,6 +121,7 @@ int main(void)
     other[0] = RRUFTHIM_IMAGE_VERSION_2;
     format(other, sizeof other);
     moves();
+    order();
     columns();
     return 0;
 }

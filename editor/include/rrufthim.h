@@ -1,8 +1,8 @@
 /*
  * The proved formatter for Roto scripts, as C calls it. The functions are those of librrufthim.a: target/staticlib/libexports.a, which
  * `tools/build exports` writes (x86-64 Linux), under a name that no other library has. docs/01-scope.md has the rules: the tree image,
- * rows, marks, states and refusals; docs/02-change-requests.md those of tallies, widths, modes, steps, batches, rules of widths and the
- * image's version 2.
+ * rows, marks, states and refusals; docs/02-change-requests.md those of tallies, widths, modes, steps, batches, rules of widths, the
+ * image's version 2 and the order of comments.
  *
  * Buffers. A pointer to bytes, rows or a table goes with the number of its elements; state, args, choice, tallies and out have a fixed
  * number of places. No pointer may be NULL, even where the number is 0. store and table must be aligned for uint32_t, those of a fixed
@@ -21,6 +21,10 @@
  * Versions. An image's first byte is RRUFTHIM_IMAGE_VERSION_1, and each of its texts stores a width; or RRUFTHIM_IMAGE_VERSION_2, and none
  * does. Version 2 is for archives: it is laid out and rendered by RRUFTHIM_WIDTHS_UNICODE_16_0 alone, and by any other rule refused by 20,
  * before all else. rrufthim_forward and rrufthim_back move an image from one to the other.
+ *
+ * Order. An image's comments must each start at or after the end of the one before. Images that were archived before this was asked for may
+ * have them in any order: rrufthim_layout_archived lays these out as before, and rrufthim_forward and rrufthim_back move them; all other
+ * functions that read comments refuse them by 7. rrufthim_render reads none.
  *
  * Flags. In state and args every number but 0 means yes; in out a flag is 0 or 1.
  *
@@ -47,8 +51,9 @@ typedef char rrufthim_lengths_have_64_bits[sizeof(size_t) == 8 ? 1 : -1];
 #define RRUFTHIM_BAD_RECORD 4       /* a record of the tree image is malformed: offset in the image */
 #define RRUFTHIM_TOO_DEEP 5         /* a record of the tree image is over 64 deep: record's offset in the image */
 #define RRUFTHIM_BAD_SPAN 6         /* a record's span is no range of characters of the source: record's offset in the image */
-#define RRUFTHIM_BAD_COMMENT 7      /* the comment list is cut off or over 8,192, or a comment is empty or no range of characters of the source:
-                                       offset of the count or the comment in the image */
+#define RRUFTHIM_BAD_COMMENT 7      /* the comment list is cut off or over 8,192, or a comment is empty or no range of characters of the source,
+                                       or, but in an archived image, starts before the end of the one before: offset of the count or the
+                                       comment in the image */
 #define RRUFTHIM_MORE_ROWS 8        /* the store has too few rows: rows needed in all */
 #define RRUFTHIM_MORE_MARKS 9       /* there are too few marks: marks needed */
 #define RRUFTHIM_MORE_OUTPUT 10     /* the output is too short: bytes needed */
@@ -57,7 +62,8 @@ typedef char rrufthim_lengths_have_64_bits[sizeof(size_t) == 8 ? 1 : -1];
                                        the rule of widths not that of the calls before: 0 */
 #define RRUFTHIM_BAD_TALLIES 14     /* the tallies count 4,096 files, one of them is over 4,294,967,296, or more groups are wrapped than given: 0 */
 #define RRUFTHIM_BAD_WIDTH 15       /* the width is under 40 or over 200 columns, or not that of the calls before: 0 */
-#define RRUFTHIM_BAD_STEP 16        /* a step is unknown, cut off or wrong there, or something is missing at the list's end: offset in the list */
+#define RRUFTHIM_BAD_STEP 16        /* a step is unknown, cut off or wrong there, as a comment is that starts before the end of the one before, or
+                                       something is missing at the list's end: offset in the list */
 #define RRUFTHIM_MORE_ROOM 17       /* the output is too short for the image or the steps, or the image's body over 1,048,576 bytes: bytes needed */
 #define RRUFTHIM_BAD_BATCH 18       /* a frame of the batch runs past the buffer, or is the 257th: frame's offset in the buffer */
 #define RRUFTHIM_MORE_FOR_BATCH 19  /* the table of the batch is too short, or the output: numbers of the table, or bytes, needed */
@@ -122,14 +128,15 @@ typedef char rrufthim_lengths_have_64_bits[sizeof(size_t) == 8 ? 1 : -1];
  * the major is 0, the minor is raised for both. Another shape is always another version too.
  */
 #define RRUFTHIM_SHAPE 2
-#define RRUFTHIM_VERSION "0.4"
-#define RRUFTHIM_VERSION_NUMBER 4
+#define RRUFTHIM_VERSION "0.5"
+#define RRUFTHIM_VERSION_NUMBER 5
 
 #define RRUFTHIM_JOIN_AS_IT_IS(name, number) name##number
 #define RRUFTHIM_JOIN(name, number) RRUFTHIM_JOIN_AS_IT_IS(name, number)
 #define RRUFTHIM_SYMBOL(name) RRUFTHIM_JOIN(rrufthim_##name##_s, RRUFTHIM_SHAPE)
 #define rrufthim_check RRUFTHIM_SYMBOL(check)
 #define rrufthim_layout RRUFTHIM_SYMBOL(layout)
+#define rrufthim_layout_archived RRUFTHIM_SYMBOL(layout_archived)
 #define rrufthim_render RRUFTHIM_SYMBOL(render)
 #define rrufthim_format RRUFTHIM_SYMBOL(format)
 #define rrufthim_newlines RRUFTHIM_SYMBOL(newlines)
@@ -169,6 +176,19 @@ void rrufthim_check(
  *        the text: the last out[1] of the image's list. In mode 1 there are none; in mode 0 look at it before you save.
  */
 void rrufthim_layout(
+    const uint8_t *source, size_t source_len,
+    const uint8_t *image, size_t image_len,
+    uint32_t *store, size_t store_len,
+    const uint64_t state[RRUFTHIM_LAYOUT_STATE],
+    const uint64_t args[RRUFTHIM_LAYOUT_ARGS],
+    uint64_t out[RRUFTHIM_LAYOUT_OUT]);
+
+/*
+ * The same for an archived image, whose comments may be in any order; they are laid in the order of their list. Refusals as rrufthim_layout, but
+ * for a comment that starts before the end of the one before (7). What rrufthim_layout accepts, this answers alike; a run may mix both,
+ * since no state holds by which a call was made. There is no archive function for a whole file: make this call and rrufthim_render.
+ */
+void rrufthim_layout_archived(
     const uint8_t *source, size_t source_len,
     const uint8_t *image, size_t image_len,
     uint32_t *store, size_t store_len,
@@ -248,7 +268,7 @@ void rrufthim_count(
 
 /*
  * Writes an image of version 1 from steps, for who has no source: a generator. A step is a byte, then its numbers, the highest byte first:
- *   1 comment: start, end, four bytes each; before all other steps
+ *   1 comment: start, end, four bytes each; before all other steps, and at or after the end of the one before
  *   2 open a record: kind, one byte; start and end of its span, four bytes each
  *   3 text, of the text record just opened: width, two bytes; length, four bytes; the text, which is UTF-8
  *   4 payload byte, of the record just opened: one byte
@@ -314,7 +334,7 @@ void rrufthim_columns(
 /*
  * For archives: the image of version 1 as one of version 2, which is the same without the two bytes of each text's width. It is allowed where
  * each width is what RRUFTHIM_WIDTHS_UNICODE_16_0 gives, the shebang's without the blanks at its end; then rrufthim_back returns the same bytes.
- * Refusals 1 to 7 (3 for version 2 too), 21, 17; each leaves the output as it was.
+ * Refusals 1 to 7 (3 for version 2 too, 7 but for the order of comments), 21, 17; each leaves the output as it was.
  *
  * output: is written from its start on; as many bytes as the image has are enough.
  * out:    [0] 0, [1] bytes of the moved image.
@@ -327,8 +347,8 @@ void rrufthim_forward(
 
 /*
  * The way back: the image of version 2 as one of version 1, with the widths that RRUFTHIM_WIDTHS_UNICODE_16_0 gives. Refusals 1 to 7 (3 for
- * version 1 too), 21 for a text of more columns than two bytes hold, 17, also for a body that would be over RRUFTHIM_MAX_BODY, whatever is lent;
- * each leaves the output as it was.
+ * version 1 too, 7 but for the order of comments), 21 for a text of more columns than two bytes hold, 17, also for a body that would be over
+ * RRUFTHIM_MAX_BODY, whatever is lent; each leaves the output as it was.
  *
  * output: is written from its start on; two bytes more for each thirteen of the image are enough.
  * out:    [0] 0, [1] bytes of the moved image.

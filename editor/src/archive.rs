@@ -35,9 +35,9 @@ use crate::{
 ///
 /// # Errors
 ///
-/// Refusals 1 to 7, 3 for an image of version 2 too; 21 where a text's width
-/// isn't what Unicode 16.0 gives it, the shebang's without the blanks at its
-/// end.
+/// Refusals 1 to 7, 3 for an image of version 2 too, and 7 but for the order
+/// of comments; 21 where a text's width isn't what Unicode 16.0 gives it, the
+/// shebang's without the blanks at its end.
 pub fn forward(file: File<'_>) -> Result<Vec<u8>, MoveError> {
     // It is never longer.
     moved(file, file.image.len(), forward_into)
@@ -48,8 +48,9 @@ pub fn forward(file: File<'_>) -> Result<Vec<u8>, MoveError> {
 ///
 /// # Errors
 ///
-/// Refusals 1 to 7, 3 for an image of version 1 too; 21 where a text is over
-/// [`MAX_WIDTH`] columns; 17 where the body would be over [`MAX_BODY`] bytes.
+/// Refusals 1 to 7, 3 for an image of version 1 too, and 7 but for the order
+/// of comments; 21 where a text is over [`MAX_WIDTH`] columns; 17 where the
+/// body would be over [`MAX_BODY`] bytes.
 pub fn back(file: File<'_>) -> Result<Vec<u8>, MoveError> {
     // Two bytes for each text, whose record has thirteen at least.
     let image = file.image.len();

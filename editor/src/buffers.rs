@@ -5,7 +5,7 @@ use std::fmt;
 use crate::{
     calls::{
         Laid, LayoutArgs, LayoutState, ROW, RenderArgs, RenderState, Written,
-        layout, render,
+        render,
     },
     error::FormatError,
     file::File,
@@ -21,6 +21,15 @@ const ROW_TAKES: usize = 13;
 
 /// The most rows that are lent before a refusal asks for more: 18 MiB.
 const MAX_AT_FIRST: usize = 1 << 19;
+
+/// A layout call: [`layout`](crate::calls::layout), or that for archived images.
+pub type LayoutCall = fn(
+    File<'_>,
+    &mut [u32],
+    &LayoutState,
+    &LayoutArgs,
+    &Options,
+) -> Result<Laid, Refusal>;
 
 /// Rows, marks and the place of the text.
 pub struct Buffers {
@@ -73,6 +82,7 @@ impl Buffers {
     /// A layout call, made again with more rows if it asks for them.
     pub fn lay_out(
         &mut self,
+        layout: LayoutCall,
         file: File<'_>,
         state: &LayoutState,
         args: &LayoutArgs,
@@ -166,7 +176,7 @@ fn zeros<T: Copy + Default>(length: usize) -> Option<Vec<T>> {
 #[cfg(test)]
 mod tests {
     use super::*;
-    use crate::{ast::*, encode::encode};
+    use crate::{ast::*, calls::layout, encode::encode};
 
     const SOURCE: &str = "import a.b.{c.d, e};\n";
 
@@ -200,7 +210,7 @@ mod tests {
         let file = File::new(SOURCE, &image);
         let all = LayoutArgs::up_to(1).with_close(true);
         let fresh = LayoutState::default();
-        let laid = buffers.lay_out(file, &fresh, &all, options)?;
+        let laid = buffers.lay_out(layout, file, &fresh, &all, options)?;
         let rows = RenderArgs::up_to(laid.state.next_row);
         let fresh = RenderState::default();
         let written = buffers.render(file, &fresh, &rows, options)?;

@@ -35,6 +35,15 @@ pub enum EncodeError {
         /// The comment.
         span: Span,
     },
+    /// A comment that starts before the end of the one before.
+    UnorderedComment {
+        /// Its place in the list.
+        index: usize,
+        /// The comment.
+        span: Span,
+        /// Where the one before ends.
+        end_before: usize,
+    },
     /// A span that is reversed or past 65,536.
     BadSpan {
         /// The span.
@@ -66,6 +75,7 @@ impl EncodeError {
     pub fn span(&self) -> Option<Span> {
         match self {
             Self::BadComment { span, .. }
+            | Self::UnorderedComment { span, .. }
             | Self::BadSpan { span }
             | Self::TooWide { span, .. }
             | Self::TooDeep { span }
@@ -85,6 +95,15 @@ impl fmt::Display for EncodeError {
                 f,
                 "comment {index} at {span:?} is empty, reversed or past \
                  {MAX_SOURCE}"
+            ),
+            Self::UnorderedComment {
+                index,
+                span,
+                end_before,
+            } => write!(
+                f,
+                "comment {index} at {span:?} starts before {end_before}, \
+                 where the one before it ends"
             ),
             Self::BadSpan { span } => {
                 write!(f, "span {span:?} is reversed or past {MAX_SOURCE}")

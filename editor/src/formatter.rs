@@ -4,8 +4,11 @@ use std::fmt;
 
 use crate::{
     ast::{Extras, SyntaxTree},
-    buffers::Buffers,
-    calls::{LayoutArgs, LayoutState, RenderArgs, RenderState},
+    buffers::{Buffers, LayoutCall},
+    calls::{
+        LayoutArgs, LayoutState, RenderArgs, RenderState, layout,
+        layout_archived,
+    },
     encode::{simple_width, write_tree},
     error::FormatError,
     file::File,
@@ -133,7 +136,8 @@ impl Formatter {
             .and_then(|()| out.finish())
             .map_err(|error| FormatError::encode(*error, source))?;
         let image = &self.image;
-        format(&mut self.buffers, File { source, image }, &self.options)
+        let file = File { source, image };
+        format(&mut self.buffers, layout, file, &self.options)
     }
 
     /// Formats a source with its image.
@@ -149,7 +153,37 @@ impl Formatter {
         &mut self,
         file: File<'_>,
     ) -> Result<Formatted<&str>, FormatError> {
-        format(&mut self.buffers, file, &self.options)
+        format(&mut self.buffers, layout, file, &self.options)
+    }
+
+    /// Formats a source with an archived image, whose comments may be in any
+    /// order, as they might before request 10: they come in the order of
+    /// their list, and its text is what it was. Of any other image it is that
+    /// of [`format_file`](Self::format_file).
+    ///
+    /// ```
+    /// use rrufthim::{ast::*, File, Formatter, Refusal, encode};
+    ///
+    /// let mut image = encode(&SyntaxTree::default(), &[0..4, 5..9])?;
+    /// image[7..23].rotate_left(8); // as an editor of old sent it: the later comment first
+    /// let file = File::new("// a\n// b\n", &image);
+    ///
+    /// let mut formatter = Formatter::new();
+    /// let error = formatter.format_file(file).expect_err("a list that runs backwards");
+    /// assert_eq!(error.cause, rrufthim::Cause::Refused(Refusal::BadComment { at: 15 }));
+    /// assert_eq!(formatter.format_archived(file)?.text, "// b\n// a\n");
+    /// # Ok::<(), Box<dyn std::error::Error>>(())
+    /// ```
+    ///
+    /// # Errors
+    ///
+    /// As [`format_file`](Self::format_file), but for a comment that starts
+    /// before the end of the one before (7).
+    pub fn format_archived(
+        &mut self,
+        file: File<'_>,
+    ) -> Result<Formatted<&str>, FormatError> {
+        format(&mut self.buffers, layout_archived, file, &self.options)
     }
 }
 
@@ -157,6 +191,7 @@ impl Formatter {
 /// rows.
 fn format<'b>(
     buffers: &'b mut Buffers,
+    layout: LayoutCall,
     file: File<'_>,
     options: &Options,
 ) -> Result<Formatted<&'b str>, FormatError> {
@@ -164,7 +199,7 @@ fn format<'b>(
     buffers.prepare(file, 1);
     let all = LayoutArgs::up_to(file.declarations()).with_close(true);
     let fresh = LayoutState::default();
-    let laid = buffers.lay_out(file, &fresh, &all, options);
+    let laid = buffers.lay_out(layout, file, &fresh, &all, options);
     let laid = laid.map_err(refused)?;
     let rows = RenderArgs::up_to(laid.state.next_row);
     let fresh = RenderState::default();

@@ -3,7 +3,9 @@
 use crate::{
     ast::Span,
     buffers::Buffers,
-    calls::{LayoutArgs, LayoutState, RenderArgs, RenderState, check},
+    calls::{
+        LayoutArgs, LayoutState, RenderArgs, RenderState, check, layout,
+    },
     error::FormatError,
     file::File,
     image::{comments_from, name_start},
@@ -163,7 +165,7 @@ impl<'f> InParts<'f> {
         let (file, close) = (self.file, stop == self.declarations);
         let args = LayoutArgs::up_to(stop).with_close(close);
         let (state, options) = (&self.layout, &self.options);
-        let laid = self.buffers.lay_out(file, state, &args, options);
+        let laid = self.buffers.lay_out(layout, file, state, &args, options);
         self.layout = laid.map_err(|refusal| file.error(refusal))?.state;
         Ok(())
     }

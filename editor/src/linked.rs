@@ -111,6 +111,16 @@ linked! {
         out: &mut [u64; 11],
     );
 
+    /// The same for archived images, whose comments may be in any order.
+    fn layout_archived(
+        source: &[u8],
+        image: &[u8],
+        store: &mut [u32],
+        state: &[u64; 9],
+        args: &[u64; 4],
+        out: &mut [u64; 11],
+    );
+
     /// `state`: indent, next_indent, column, marks in use, next row, width,
     /// rule. `args`: the row to stop before, the width, the rule. `out`: 0,
     /// bytes written, the new state; or number, place.

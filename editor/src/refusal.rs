@@ -120,9 +120,11 @@ refusals! {
         # is "the tree has the span #, which is no range of characters of \
             the source";
     7 BadComment "the comment list is cut off or over 8,192, or a comment is \
-        empty or no range of characters of the source",
+        empty or no range of characters of the source, or, but in an archived \
+        image, starts before the end of the one before",
         at: "offset of the count or the comment in the image",
-        # is "the comment # is empty or no range of characters of the source";
+        # is "the comment # is empty or no range of characters of the source, \
+            or starts before the end of the one before";
     8 MoreRows "the store has too few rows",
         needed: "rows needed in all";
     9 MoreMarks "there are too few marks",
@@ -140,8 +142,9 @@ refusals! {
         4,294,967,296, or more groups are wrapped than given";
     15 BadWidth "the width is under 40 or over 200 columns, or not that of \
         the calls before";
-    16 BadStep "a step is unknown, cut off or wrong there, or something is \
-        missing at the list's end",
+    16 BadStep "a step is unknown, cut off or wrong there, as a comment is \
+        that starts before the end of the one before, or something is missing \
+        at the list's end",
         at: "offset in the list";
     17 MoreRoom "the output is too short for the image or the steps, or the \
         image's body over 1,048,576 bytes",

@@ -62,11 +62,12 @@ impl<'b> ImageWriter<'b> {
         }
     }
 
-    /// The comments, in the order of the source.
+    /// The comments, in the order of the source: each starts at or after the
+    /// end of the one before.
     ///
     /// # Errors
     ///
-    /// `TooManyComments`, `BadComment`.
+    /// `TooManyComments`, `BadComment`, `UnorderedComment`.
     pub fn comments(
         &mut self,
         comments: impl ExactSizeIterator<Item = Span>,
@@ -76,10 +77,20 @@ impl<'b> ImageWriter<'b> {
             return Err(EncodeError::TooManyComments { count }.into());
         }
         self.out.extend((count as u16).to_be_bytes());
+        let mut end_before = 0;
         for (index, span) in comments.enumerate() {
             if span.is_empty() || !in_bounds(&span) {
                 return Err(EncodeError::BadComment { index, span }.into());
             }
+            if span.start < end_before {
+                return Err(EncodeError::UnorderedComment {
+                    index,
+                    span,
+                    end_before,
+                }
+                .into());
+            }
+            end_before = span.end;
             self.out.extend(number(span.start));
             self.out.extend(number(span.end));
         }

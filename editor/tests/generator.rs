@@ -236,8 +236,8 @@ fn comments_and_spans() {
         let kind = kind::TREE;
         turned_down(&builder, &Step::Open { kind, span });
     }
-    for _ in 0..MAX_COMMENTS {
-        builder.comment(0..1).expect("a comment");
+    for at in 0..MAX_COMMENTS {
+        builder.comment(at..at + 1).expect("a comment");
     }
     turned_down(&builder, &COMMENT);
     builder.open(kind::TREE, 7..7).expect("the tree");

@@ -17,7 +17,7 @@ use rrufthim::{
 #[test]
 fn all_say_the_same() {
     let exported = exported(&exports());
-    assert_eq!(exported.len(), 12);
+    assert_eq!(exported.len(), 13);
     assert_eq!(linked(LINKED), exported);
     assert_eq!(declared(HEADER), exported);
     let check = format!("rrufthim_check_s{SHAPE}");

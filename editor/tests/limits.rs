@@ -41,11 +41,13 @@ fn encode_at(
 #[test]
 fn comments() {
     let tree = constants(SOURCE);
-    let most = vec![0..1; MAX_COMMENTS];
+    let comments = |count| Vec::from_iter((0..count).map(|at| at..at + 1));
+    let most = comments(MAX_COMMENTS);
     let image = encode(&tree, &most).expect("as many as there may be");
-    assert!(accepted(SOURCE, &image));
+    let source = SOURCE.to_owned() + &" ".repeat(MAX_COMMENTS);
+    assert!(accepted(&source, &image));
 
-    let more = vec![0..1; MAX_COMMENTS + 1];
+    let more = comments(MAX_COMMENTS + 1);
     let count = more.len();
     let error = EncodeError::TooManyComments { count };
     assert_eq!(encode(&tree, &more), Err(error));

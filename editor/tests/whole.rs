@@ -104,7 +104,7 @@ fn images(count: usize) -> Vec<Vec<u8>> {
     let mut images = Vec::new();
     for shebang in [None, Some("#!/x".to_owned())] {
         tree.shebang = shebang;
-        for comments in [&[][..], &[0..1], &[0..1, 1..2, 0..2]] {
+        for comments in [&[][..], &[0..1], &[0..1, 1..2, 2..4]] {
             images.push(encode(&tree, comments).expect("within the limits"));
         }
     }

@@ -11,6 +11,7 @@ use lib.ListN.{length, length-append}
 use Rattle.laws.proofs.Options.{never}
 use Rattle.refusals.specs.Refusals.{Refusal, refuse_if, or_else, first, any, is_one_of}
 use Rattle.refusals.proofs.Groups.{passes_left}
+use Rattle.image.proofs.Earlier.{none_earlier}
 use Rattle.image.specs.Read.{Read, got, bad, Image, read_all, reader_numbers, read_refusal}
 use Rattle.image.proofs.Numbers.{read_numbers}
 use Rattle.rows.specs.Limits.{MAX_ROWS}
@@ -70,11 +71,11 @@ module _ (s b : List ℕ) where
     where
       go : (x : Read Image) → read_all s b ≡ x → Fines (read_refusal x)
       go (got i end) e = fine_none
-      go (bad n p) e = fine_at n p (none_ten n (read_numbers s b n p e)) (let h = read_places s b n p e in omega arith)
+      go (bad n p) e = fine_at n p (none_ten n (read_numbers false s b n p e)) (let h = read_places s b n p e in omega arith)
 
   module _ (c : FileChoice) where
     rows_few : read_refusal (read_all s b) ≡ None → rows_due s b c ≤ MAX_ROWS
-    rows_few h = omega (arith, (closed_within (stood s b h).stood (keeps_waiting c.mode)).rows)
+    rows_few h = omega (arith, (closed_within (stood s b (none_earlier s b h)).stood (keeps_waiting c.mode)).rows)
 
     early_lines : Fines (first (file_before_text s b c file_rows file_marks))
     early_lines =
@@ -90,7 +91,7 @@ module _ (s b : List ℕ) where
         (fine_if (ltb file_rows (rows_due s b c)) 8 (rows_due s b c) (λ e. omega arith) (let k = rows_few h in omega arith))
         (λ k.
         fine_or (refuse_if (ltb file_marks (marks_due s b c)) 9 (marks_due s b c)) None
-        (fine_if (ltb file_marks (marks_due s b c)) 9 (marks_due s b c) (λ e. omega arith) (let l = marks_few s b c h in omega arith))
+        (fine_if (ltb file_marks (marks_due s b c)) 9 (marks_due s b c) (λ e. omega arith) (let l = marks_few s b c (none_earlier s b h) in omega arith))
         (λ l. fine_none))))))
 
 pub early_fine : (c : FileChoice) (x : Save) → Fines (early c x)

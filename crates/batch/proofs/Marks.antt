@@ -11,7 +11,7 @@ use lib.Dec.{eqb}
 use lib.ListN.{length}
 use lib.Seq.{take_all}
 use borrow.Author.Tests.{eqb-false}
-use Rattle.image.specs.Read.{read_all, read_refusal}
+use Rattle.image.specs.Read.{read_earlier, read_refusal}
 use Rattle.rows.specs.Kinds.{GROUP, INDENT, INDENT_NEXT, WRAP_PARENT, COMMENT, STR, ASCII, LINE, EMPTY_LINE, LINE_OR_SPACE, IF_WRAP, CALL}
 use Rattle.rows.specs.Limits.{MAX_NUMBER}
 use Rattle.rows.specs.Node.{Text, Node, Nodes, group, indent, indent_next, wrap_parent}
@@ -135,13 +135,13 @@ module _ (s : List ℕ) where
           (nodes_few ns (i + size n) (r + size n) (holds_right s i (size n) (rows_of n r) (rows ns (r + size n)) (length_rows_of n r) h)
           (λ x g. (neither (names x n) (names_in x ns) (u x g)).1))
 
-pub marks_few : (s b : List ℕ) (c : FileChoice) → read_refusal (read_all s b) ≡ None → marks_due s b c ≤ MAX_NUMBER
+pub marks_few : (s b : List ℕ) (c : FileChoice) → read_refusal (read_earlier s b) ≡ None → marks_due s b c ≤ MAX_NUMBER
 marks_few s b c h =
     let l = rows (laid s b c) 0 in
     let keeps = keeps_waiting c.mode in
     let few =
     nodes_few l (built s b c).taken (laid s b c) 0 0 (holds_part l 0 l (take_all (length l) l (omega arith)))
-    (λ x g. laid_names c.rule s b x (built s b c).nodes ∙ whole_below (given s b) (accepted_tree b (read_all s b)) keeps x g)
+    (λ x g. laid_names c.rule s b x (built s b c).nodes ∙ whole_below (given s b) (accepted_tree b (read_earlier s b)) keeps x g)
     in
     let size = laid_size c.rule s b (built s b c).nodes in
     omega (arith, ap (λ (n : ℕ). marks_needed n l 0) size, (closed_within (stood s b h).stood keeps).numbers)

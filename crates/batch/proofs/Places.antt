@@ -137,7 +137,7 @@ all_before s b =
     pick (10 + MAX_BODY) (not (source_fits s)) _ _ (λ e. omega arith)
     (λ e.
     let h = leb-true (length s) MAX_SOURCE (not-false _ e) in
-    pick (10 + MAX_BODY) (not (well_formed s)) _ _ (λ f. omega (arith, prefix_inside s)) (λ f. image_before any_version false s b))
+    pick (10 + MAX_BODY) (not (well_formed s)) _ _ (λ f. omega (arith, prefix_inside s)) (λ f. image_before any_version true s b))
 
 pub read_places : (s b : List ℕ) (n p : ℕ) → read_all s b ≡ bad n p → p ≤ 10 + MAX_BODY
 read_places s b n p e = rw e at (all_before s b)

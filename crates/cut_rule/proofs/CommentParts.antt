@@ -2,7 +2,6 @@
 -- Assumes nothing but the laws of the parts.
 use mathlib.Core.Path.{◌≡◌, sym, ap, ap₂, subst, ◌∙◌}
 use mathlib.Core.Bool.{Bool, true, false}
-use Rattle.std.specs.Prelude.{None}
 use mathlib.Core.List.{List, ◌++◌}
 use Prim.Native.Nat.{ℕ, zero, suc, ◌+◌, ◌-◌, ◌*◌, ◌≤◌, ◌<◌}
 use native.Mathlib.Nat.{sub-zero}
@@ -52,18 +51,18 @@ laying_then listed c p g u v =
       };
     }
 
-module _ (P : RuleParts) (L : LayoutPartLaws P) (listed : List Text) (K : CommentPartLaws P listed) (image : P.layout_image ≡ None) where
+module _ (P : RuleParts) (L : LayoutPartLaws P) (listed : List Text) (K : CommentPartLaws P listed) where
   abbrev c₀ : Cursor
   c₀ = layout_fresh.cursor
 
   laying_up_to : (k : LayoutChoice) (n : ℕ) → n ≤ P.declarations → Laying listed c₀ (up_to P k n)
-  laying_up_to k zero h = record { counts = L.shebang_counts image k c₀; places = K.shebang_places image k c₀ (omega arith) }
+  laying_up_to k zero h = record { counts = L.shebang_counts k c₀; places = K.shebang_places k c₀ (omega arith) }
   laying_up_to k (suc n) h =
       let t = laying_up_to k n (omega arith) in
       let c = (up_to P k n).cursor in
       let l : 0 + n < P.declarations = omega arith in
       laying_then listed c₀ (up_to P k n) (P.declaration k (0 + n)) t
-      (record { counts = L.declaration_counts image k (0 + n) c l; places = K.declaration_places image k (0 + n) c l t.places.within })
+      (record { counts = L.declaration_counts k (0 + n) c l; places = K.declaration_places k (0 + n) c l t.places.within })
 
   laying_end : (k : LayoutChoice) (b : Bool) (n : ℕ) → n ≤ P.declarations → Laying listed c₀ (end P k b (up_to P k n))
   laying_end k false n h = laying_up_to k n h
@@ -71,22 +70,22 @@ module _ (P : RuleParts) (L : LayoutPartLaws P) (listed : List Text) (K : Commen
       let t = laying_up_to k n h in
       let c = (up_to P k n).cursor in
       laying_then listed c₀ (up_to P k n) (P.final k) t
-      (record { counts = L.final_counts image k c; places = K.final_places image k c t.places.within })
+      (record { counts = L.final_counts k c; places = K.final_places k c t.places.within })
 
   laying_due : (q : LayoutArgs LayoutChoice) → q.stop ≤ P.declarations → Laying listed c₀ (call_piece P layout_fresh q)
   laying_due q h = subst (Laying listed c₀) (sym (from_fresh P q)) (laying_end q.choice q.close q.stop h)
 
 module _ (P : RuleParts) (L : LayoutPartLaws P) (listed : List Text) (K : CommentPartLaws P listed) where
-  first_placed : (q : LayoutArgs LayoutChoice) → P.layout_image ≡ None → q.stop ≤ P.declarations
+  first_placed : (q : LayoutArgs LayoutChoice) → q.stop ≤ P.declarations
       → comments_in (call_piece P layout_fresh q).rows (call_piece P layout_fresh q).cursor.row ≡ take (call_piece P layout_fresh q).cursor.placed listed
-  first_placed q image h =
+  first_placed q h =
       let p = call_piece P layout_fresh q in
       ap (comments_in p.rows) (sym (sub-zero p.cursor.row))
-      ∙ (laying_due P L listed K image q h).places.next
+      ∙ (laying_due P L listed K q h).places.next
       ∙ ap (λ (k : ℕ). take k listed) (sub-zero p.cursor.placed)
 
   pub comment_laws : CommentLaws (rules P) (layout_laws P L) listed
   comment_laws = record {
-    first_placed = λ q k. first_placed q (fitting P L q k).image (fitting P L q k).to;
+    first_placed = λ q k. first_placed q (fitting P L q k).to;
     rest_left = λ q k. omega (arith, K.all_listed, length-drop (call_piece P layout_fresh q).cursor.placed listed);
   }

@@ -2,7 +2,7 @@
 -- of which places a comment; rendering writes the nine numbers of each row that it reads.
 -- Assumes nothing.
 use mathlib.Core.Path.{◌≡◌, refl, sym, ap, ap₂, ◌∙◌}
-use mathlib.Core.Bool.{Bool, true, false}
+use mathlib.Core.Bool.{Bool, true, false, cond}
 use Rattle.std.specs.Prelude.{Option, None, Some}
 use mathlib.Core.List.{List, [], ◌∷◌, ◌++◌}
 use Prim.Native.Nat.{ℕ, zero, suc, ◌+◌, ◌-◌, ◌*◌, ◌≤◌, ◌<◌}
@@ -14,7 +14,7 @@ use lib.Seq.{take-take}
 use Rattle.rows.specs.Places.{PLACES}
 use Rattle.renderer_rules.specs.Limits.{MAX_INDENT, MAX_COLUMN}
 use Rattle.renderer_rules.specs.declared.Pen.{Pen}
-use Rattle.refusals.specs.Refusals.{any}
+use Rattle.refusals.specs.Refusals.{Refusal, any}
 use Rattle.refusals.specs.Answers.{Answer, refused, accepted}
 use Rattle.cut_rule.specs.Run.{Call, layout_call, render_call, Carried, start, run, CallResult, laid_out, written, answers}
 use Rattle.cut_rule.specs.Plain.{at_first, due, plain, AllReadLaid}
@@ -47,12 +47,13 @@ abbrev in_store : Bool → Option ℕ
 in_store true = None
 in_store false = Some 0
 
-abbrev small : RuleParts
-small = record {
+-- by what refuses the strict reading, and not the earlier one
+abbrev small_by : Option Refusal → RuleParts
+small_by order = record {
   source_size = 100;
   declarations = 2;
   comments = 2;
-  layout_image = None;
+  layout_image = λ archive. cond archive None order;
   other_rule = λ rule. false;
   render_image_of = λ c. None;
   shebang = λ k c. record { cursor = c; rows = [] };
@@ -63,15 +64,18 @@ small = record {
   draw = λ s q marks store. record { pen = s.pen; marks = marks; text = drop (PLACES * s.row) (take (PLACES * q.stop) store) };
 }
 
+abbrev small : RuleParts
+small = small_by None
+
 placing_counts : (b : Bool) (c : Cursor) → Counts c (placing b c)
 placing_counts true c = record { row = omega arith }
 placing_counts false c = record { row = omega arith }
 
 layout_parts : LayoutPartLaws small
 layout_parts = record {
-  shebang_counts = λ e k c. record { row = omega arith };
-  declaration_counts = λ e k n c l. placing_counts (ltb c.placed 2) c;
-  final_counts = λ e k c. record { row = omega arith };
+  shebang_counts = λ k c. record { row = omega arith };
+  declaration_counts = λ k n c l. placing_counts (ltb c.placed 2) c;
+  final_counts = λ k c. record { row = omega arith };
 }
 
 none_more : (r k : ℕ) (rows : List ℕ) → comments_in rows (r - r) ≡ take (k - k) (drop k listed)
@@ -98,9 +102,9 @@ placing_places false c e h = record { more = omega arith; within = h; next = non
 comment_parts : CommentPartLaws small listed
 comment_parts = record {
   all_listed = refl;
-  shebang_places = λ e k c h. record { more = omega arith; within = h; next = none_more c.row c.placed [] };
-  declaration_places = λ e k n c l h. placing_places (ltb c.placed 2) c refl h;
-  final_places = λ e k c h. record {
+  shebang_places = λ k c h. record { more = omega arith; within = h; next = none_more c.row c.placed [] };
+  declaration_places = λ k n c l h. placing_places (ltb c.placed 2) c refl h;
+  final_places = λ k c h. record {
     more = omega arith;
     within = h;
     next = (let e : c.row + 1 - c.row ≡ 1 = omega arith in let f : c.placed - c.placed ≡ 0 = omega arith in rw (e, f));
@@ -147,7 +151,7 @@ example = parts_cut small listed layout_parts render_parts comment_parts
 
 -- ---- lists of calls
 abbrev lay_by : ℕ → ℕ → ℕ → Bool → Call (rules small)
-lay_by rule mode n b = layout_call (record { stop = n; close = b; choice = record { mode = mode; rule = rule } })
+lay_by rule mode n b = layout_call (record { stop = n; close = b; choice = record { mode = mode; rule = rule }; archive = false })
 
 abbrev lay_in : ℕ → ℕ → Bool → Call (rules small)
 lay_in mode n b = lay_by MIN_RULE mode n b
@@ -165,11 +169,14 @@ abbrev render_to : ℕ → ℕ → Call (rules small)
 render_to n room = render_at REFERENCE_WIDTH n room
 
 -- number and place of a refusal; 100 and the comments left; 200 and the bytes written
+abbrev numbers_by : (P : RuleParts) → List (Answer (CallResult (rules P))) → List (List ℕ)
+numbers_by P [] = []
+numbers_by P (refused r ∷ rest) = (r.number ∷ r.place ∷ []) ∷ numbers_by P rest
+numbers_by P (accepted (laid_out s n) ∷ rest) = (100 ∷ n ∷ []) ∷ numbers_by P rest
+numbers_by P (accepted (written s n) ∷ rest) = (200 ∷ n ∷ []) ∷ numbers_by P rest
+
 abbrev as_numbers : List (Answer (CallResult (rules small))) → List (List ℕ)
-as_numbers [] = []
-as_numbers (refused r ∷ rest) = (r.number ∷ r.place ∷ []) ∷ as_numbers rest
-as_numbers (accepted (laid_out s n) ∷ rest) = (100 ∷ n ∷ []) ∷ as_numbers rest
-as_numbers (accepted (written s n) ∷ rest) = (200 ∷ n ∷ []) ∷ as_numbers rest
+as_numbers = numbers_by small
 
 -- a store of three rows and two numbers, which held 9s, and two marks, which held 5s
 abbrev nines : List ℕ
@@ -235,6 +242,32 @@ tried_rules = refl
 -- none carried yet, the carried one, another, and one that no call could have chosen
 tried_carried : any (rule_tests 2 0) ∷ any (rule_tests 2 2) ∷ any (rule_tests 2 3) ∷ any (rule_tests 2 7) ∷ [] ≡ false ∷ false ∷ true ∷ true ∷ []
 tried_carried = refl
+
+-- ---- a list of comments that runs backwards: the strict entry refuses each of its calls, and the archive entry goes on where it stopped
+abbrev backwards : RuleParts
+backwards = small_by (Some (record { number = 7; place = 15 }))
+
+abbrev entry : Bool → ℕ → Bool → Call (rules backwards)
+entry archive n b =
+    layout_call (record { stop = n; close = b; choice = record { mode = OLD_MODE; rule = MIN_RULE }; archive = archive })
+
+tried_entries : numbers_by backwards (answers (rules backwards) (start (rules backwards) nines fives)
+    (entry false 1 false ∷ entry true 1 false ∷ entry false 2 false ∷ entry true 3 false ∷ entry true 2 true ∷ []))
+    ≡ (7 ∷ 15 ∷ []) ∷ (100 ∷ 1 ∷ []) ∷ (7 ∷ 15 ∷ []) ∷ (12 ∷ 0 ∷ []) ∷ (100 ∷ 0 ∷ []) ∷ []
+tried_entries = refl
+
+-- where no order refuses, the entries may take turns, whatever mode and rule are carried
+abbrev entries_mixed : List (Call (rules small))
+entries_mixed =
+    lay_to 1 false
+    ∷ layout_call (record { stop = 2; close = false; choice = record { mode = NEW_MODE; rule = MIN_RULE }; archive = true })
+    ∷ layout_call (record { stop = 2; close = false; choice = record { mode = OLD_MODE; rule = MIN_RULE }; archive = true })
+    ∷ lay_to 2 true
+    ∷ []
+
+tried_mixed : as_numbers (answers (rules small) (start (rules small) nines fives) entries_mixed)
+    ≡ (100 ∷ 1 ∷ []) ∷ (12 ∷ 0 ∷ []) ∷ (100 ∷ 0 ∷ []) ∷ (100 ∷ 0 ∷ []) ∷ []
+tried_mixed = refl
 
 -- 12's limits of a rendering state: each at its limit, and one past it; marks in use that are 0 and 1, a mark of 2, more marks than there are
 abbrev pen_at : ℕ → ℕ → ℕ → Bool

@@ -79,20 +79,20 @@ module _ (P : RuleParts) where
   stopped p e = from_fresh p ∙ ap (λ (b : Bool). end P p.choice b (up_to p.choice p.stop)) e
 
   -- ---- the next row counts the rows
-  module _ (L : LayoutPartLaws P) (image : P.layout_image ≡ None) where
+  module _ (L : LayoutPartLaws P) where
     counts_several : (k : LayoutChoice) (n d : ℕ) (c : Cursor) (p : Piece) → d + n ≤ P.declarations → Counts c p → Counts c (several P k n d p)
     counts_several k zero d c p h u = u
     counts_several k (suc n) d c p h u =
         counts_then c (several P k n d p) (P.declaration k (d + n)) (counts_several k n d c p (omega arith) u)
-        (L.declaration_counts image k (d + n) (several P k n d p).cursor (omega arith))
+        (L.declaration_counts k (d + n) (several P k n d p).cursor (omega arith))
 
     counts_begin : (k : LayoutChoice) (b : Bool) (c : Cursor) → Counts c (begin P k b c)
     counts_begin k true c = record { row = omega arith }
-    counts_begin k false c = L.shebang_counts image k c
+    counts_begin k false c = L.shebang_counts k c
 
     counts_end : (k : LayoutChoice) (b : Bool) (c : Cursor) (p : Piece) → Counts c p → Counts c (end P k b p)
     counts_end k false c p u = u
-    counts_end k true c p u = counts_then c p (P.final k) u (L.final_counts image k p.cursor)
+    counts_end k true c p u = counts_then c p (P.final k) u (L.final_counts k p.cursor)
 
     pub counts_piece : (s : LayoutState) (q : LayoutArgs LayoutChoice) → s.declaration ≤ q.stop → q.stop ≤ P.declarations
         → Counts s.cursor (call_piece P s q)
@@ -106,7 +106,6 @@ module _ (P : RuleParts) where
   module _ (L : LayoutPartLaws P) where
     pub record FitsParts (q : LayoutArgs LayoutChoice) : Type 0 where
       pub legal : LegalRule q.choice.rule
-      pub image : P.layout_image ≡ None
       pub to : q.stop ≤ P.declarations
       pub closes_at_end : q.close ≡ true → q.stop ≡ P.declarations
 
@@ -134,7 +133,6 @@ module _ (P : RuleParts) where
       Fits = FitsParts;
       accepted_fits = λ q s store e. record {
         legal = (layout_told P q s store e).legal;
-        image = (layout_told P q s store e).image;
         to = (layout_told P q s store e).fits.stop.to;
         closes_at_end = (layout_told P q s store e).fits.stop.closes_at_end;
       };
@@ -147,7 +145,7 @@ module _ (P : RuleParts) where
             (same_as_carried q.choice.rule p.choice.rule k.legal.least t.rule);
       };
       fresh_row = refl;
-      due_row = λ p k. omega (arith, (counts_piece L k.image layout_fresh p (omega arith) k.to).row);
+      due_row = λ p k. omega (arith, (counts_piece L layout_fresh p (omega arith) k.to).row);
       goes_on = λ p q k l a. goes_on p q a;
     }
 
@@ -159,4 +157,4 @@ module _ (P : RuleParts) where
         → PLACES * s.cursor.row + length (call_piece P s q).rows ≤ length store
     rows_fit q s store e =
         let t = layout_told P q s store e in
-        omega (arith, t.room, (counts_piece L t.image s q t.fits.stop.from t.fits.stop.to).row)
+        omega (arith, t.room, (counts_piece L s q t.fits.stop.from t.fits.stop.to).row)

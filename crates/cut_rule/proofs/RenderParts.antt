@@ -30,7 +30,11 @@ module _ (P : RuleParts) (D : RenderPartLaws P) where
 
   -- what a call gives, by what is drawn and the marks then in use
   abbrev given : RenderTo RenderChoice → Drawn → ℕ → RenderResult RenderState
-  given q y used = record { state = record { pen = y.pen; in_use = used; row = q.stop; width = q.choice.width; rule = q.choice.rule }; marks = y.marks; text = y.text }
+  given q y used = record {
+    state = record { pen = y.pen; in_use = used; row = q.stop; width = q.choice.width; rule = q.choice.rule };
+    marks = y.marks;
+    text = y.text;
+  }
 
   rendering_local : (s : RenderState) (q : RenderTo RenderChoice) (marks store other : List ℕ) → SameBefore q.stop store other
       → rendered_of P s q marks store ≡ rendered_of P s q marks other

@@ -235,7 +235,7 @@ width_fits width carried e =
 module _ (P : RuleParts) where
   pub record LayoutTold (q : LayoutArgs LayoutChoice) (s : LayoutState) (store : List ℕ) : Type 0 where
     pub legal : LegalRule q.choice.rule
-    pub image : P.layout_image ≡ None
+    pub image : P.layout_image q.archive ≡ None
     pub fits : LayoutFits P.declarations P.comments P.source_size (rows_in store) q s
     pub room : rows_needed P q s ≤ rows_in store
 
@@ -250,15 +250,16 @@ module _ (P : RuleParts) where
       let line_8 = refuse_if (ltb (rows_in store) needs) 8 needs in
       let before = passes_left (before_rows P q s store) (rows_line P q s store) e in
       let behind = passes_right (before_rows P q s store) (rows_line P q s store) e in
-      let after_20 = passes_others line_20 (P.layout_image ∷ line_12 ∷ []) before in
+      let image = P.layout_image q.archive in
+      let after_20 = passes_others line_20 (image ∷ line_12 ∷ []) before in
       record {
         legal =
             rule_legal other q.choice.rule
-            (not_if (any (chosen_tests other q.choice.rule)) 20 0 (passes_line line_20 (P.layout_image ∷ line_12 ∷ []) before));
-        image = passes_line P.layout_image (line_12 ∷ []) after_20;
+            (not_if (any (chosen_tests other q.choice.rule)) 20 0 (passes_line line_20 (image ∷ line_12 ∷ []) before));
+        image = passes_line image (line_12 ∷ []) after_20;
         fits =
             layout_fits P.declarations P.comments P.source_size (rows_in store) q s
-            (not_if tests 12 0 (passes_line line_12 [] (passes_others P.layout_image (line_12 ∷ []) after_20)));
+            (not_if tests 12 0 (passes_line line_12 [] (passes_others image (line_12 ∷ []) after_20)));
         room = ltb-false (rows_in store) needs (not_if (ltb (rows_in store) needs) 8 needs (passes_line line_8 [] behind));
       }
 

@@ -13,9 +13,9 @@ pub record Counts (c : Cursor) (p : Piece) : Type 0 where
   pub row : PLACES * p.cursor.row ≡ PLACES * c.row + length p.rows
 
 pub record LayoutPartLaws (P : RuleParts) : Type 0 where
-  pub shebang_counts : P.layout_image ≡ None → (k : LayoutChoice) (c : Cursor) → Counts c (P.shebang k c)
-  pub declaration_counts : P.layout_image ≡ None → (k : LayoutChoice) (n : ℕ) (c : Cursor) → n < P.declarations → Counts c (P.declaration k n c)
-  pub final_counts : P.layout_image ≡ None → (k : LayoutChoice) (c : Cursor) → Counts c (P.final k c)
+  pub shebang_counts : (k : LayoutChoice) (c : Cursor) → Counts c (P.shebang k c)
+  pub declaration_counts : (k : LayoutChoice) (n : ℕ) (c : Cursor) → n < P.declarations → Counts c (P.declaration k n c)
+  pub final_counts : (k : LayoutChoice) (c : Cursor) → Counts c (P.final k c)
 
 -- a piece places the next so many comments of the list, in order, each as one row
 pub record PlacesNext (listed : List Text) (c : Cursor) (p : Piece) : Type 0 where
@@ -25,10 +25,10 @@ pub record PlacesNext (listed : List Text) (c : Cursor) (p : Piece) : Type 0 whe
 
 pub record CommentPartLaws (P : RuleParts) (listed : List Text) : Type 0 where
   pub all_listed : P.comments ≡ length listed
-  pub shebang_places : P.layout_image ≡ None → (k : LayoutChoice) (c : Cursor) → c.placed ≤ length listed → PlacesNext listed c (P.shebang k c)
-  pub declaration_places : P.layout_image ≡ None → (k : LayoutChoice) (n : ℕ) (c : Cursor) → n < P.declarations → c.placed ≤ length listed
+  pub shebang_places : (k : LayoutChoice) (c : Cursor) → c.placed ≤ length listed → PlacesNext listed c (P.shebang k c)
+  pub declaration_places : (k : LayoutChoice) (n : ℕ) (c : Cursor) → n < P.declarations → c.placed ≤ length listed
       → PlacesNext listed c (P.declaration k n c)
-  pub final_places : P.layout_image ≡ None → (k : LayoutChoice) (c : Cursor) → c.placed ≤ length listed → PlacesNext listed c (P.final k c)
+  pub final_places : (k : LayoutChoice) (c : Cursor) → c.placed ≤ length listed → PlacesNext listed c (P.final k c)
 
 -- rendering, with more marks behind
 abbrev pub with_past : Drawn → List ℕ → Drawn

@@ -25,8 +25,8 @@ pub record RuleParts : Type 0 where
   pub comments : ℕ
   -- 20's second cause: whether a rule is another than the image asks for
   pub other_rule : ℕ → Bool
-  -- 1 to 7; and of these 1 and 3, "by the same tests"
-  pub layout_image : Option Refusal
+  -- 1 to 7, by whether the call is the archive entry's; and of these 1 and 3, "by the same tests"
+  pub layout_image : Bool → Option Refusal
   pub render_image_of : RenderChoice → Option Refusal
   -- the shebang, declaration n, and what closing adds, from a cursor
   pub shebang : LayoutChoice → Cursor → Piece
@@ -93,7 +93,7 @@ module _ (P : RuleParts) where
 
   -- "Layout uses 1 to 7, 12, 8", and 20 "before 1", in two parts: the lines before it is counted how many rows there will be, and 8
   abbrev pub before_rows : LayoutArgs LayoutChoice → LayoutState → List ℕ → List (Option Refusal)
-  before_rows q s store = rule_line (P.other_rule q.choice.rule) q.choice.rule ∷ P.layout_image ∷ refuse_if (any (layout_tests q s store)) 12 0 ∷ []
+  before_rows q s store = rule_line (P.other_rule q.choice.rule) q.choice.rule ∷ P.layout_image q.archive ∷ refuse_if (any (layout_tests q s store)) 12 0 ∷ []
 
   abbrev pub rows_line : LayoutArgs LayoutChoice → LayoutState → List ℕ → List (Option Refusal)
   rows_line q s store = refuse_if (ltb (rows_in store) (rows_needed q s)) 8 (rows_needed q s) ∷ []

@@ -3,11 +3,13 @@
 use Rattle.std.specs.Prelude.{Bool, List, ℕ, Option}
 use Rattle.refusals.specs.Refusals.{Refusal}
 
--- "A layout call names the declaration to stop before and whether to close." `choice` is what "later tickets add".
+-- "A layout call names the declaration to stop before and whether to close." `choice` is what "later tickets add". `archive` tells the call's
+-- entry: "an archive entry reads by the earlier rule" (document 02, 10). It is no choice, and no state carries it.
 pub record LayoutArgs (Choice : Type 0) : Type 0 where
   pub stop : ℕ
   pub close : Bool
   pub choice : Choice
+  pub archive : Bool
 
 -- How far a rendering goes, and what it chooses: "A rendering call names the row to stop before".
 pub record RenderTo (Choice : Type 0) : Type 0 where

@@ -9,7 +9,8 @@ pub record Cursor : Type 0 where
   pub placed : ℕ
   pub position : ℕ
 
--- "Layout state: begun, closed, next declaration, next row, next number, comments placed, position." "The layout state carries the mode". "Both states carry the choice" of a rule: "0 none yet".
+-- "Layout state: begun, closed, next declaration, next row, next number, comments placed, position." "The layout state carries the mode". "Both
+-- states carry the choice" of a rule: "0 none yet".
 pub record LayoutState : Type 0 where
   pub begun : Bool
   pub closed : Bool

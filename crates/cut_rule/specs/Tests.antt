@@ -90,7 +90,8 @@ mark_tests marks used = ltb (length marks) used ∷ odd_mark (take used marks) �
 
 -- 12, as far as it is of rendering
 abbrev pub render_tests : RenderArgs RenderChoice → RenderState → List ℕ → List ℕ → List Bool
-render_tests q s store marks = row_tests (rows_in store) q.to.stop s.row ++ (pen_tests s.pen ++ (mark_tests marks s.in_use ++ rule_tests q.to.choice.rule s.rule))
+render_tests q s store marks =
+    row_tests (rows_in store) q.to.stop s.row ++ (pen_tests s.pen ++ (mark_tests marks s.in_use ++ rule_tests q.to.choice.rule s.rule))
 
 -- 15: "a chosen width outside 40 to 200, or one that differs from a carried width other than 0"
 abbrev pub width_tests : ℕ → ℕ → List Bool

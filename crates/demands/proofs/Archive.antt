@@ -6,7 +6,7 @@ use mathlib.Core.List.{List, [], ◌∷◌}
 use Prim.Native.Nat.{ℕ, ◌+◌}
 use lib.Dec.{eqb, ltb}
 use lib.ListN.{length}
-use Rattle.refusals.specs.Refusals.{first, refuse_if, refuse_at}
+use Rattle.refusals.specs.Refusals.{refuse_if, refuse_at}
 use Rattle.refusals.specs.Answers.{refusal_of}
 use Rattle.refusals.proofs.Answers.{by_table}
 use Rattle.image.specs.Limits.{MAX_BODY}

@@ -14,7 +14,8 @@ use Rattle.layout_facts.proofs.Binop.{binop_as_rust}
 use Rattle.layout_facts.proofs.BlankLines.{blank_lines}
 use Rattle.layout_facts.proofs.Limits.{few_rows, words_due}
 use Rattle.layout_facts.proofs.Tokens.{says_the_program, fmt_parsed_says_the_program, slash_words}
-use Rattle.whole_run.proofs.Demands.{rules_cut, due_is_fmt_parsed, laid_within_limits}
+use Rattle.tree.proofs.Ordered.{strict_is_in_order}
+use Rattle.whole_run.proofs.Demands.{rules_cut, entries_agree, due_is_fmt_parsed, laid_within_limits}
 use Rattle.whole_run.proofs.Edges.{edges_hold, widths_hold, empty_line_holds}
 use Rattle.whole_run.proofs.File.{old_mode_is_fmt_parsed, new_mode_leaves_none}
 use Rattle.whole_run.proofs.FileLimits.{file_text_limited, file_column_limited}
@@ -101,6 +102,8 @@ claims = record {
     forward_after_back = forward_after_back;
     twenty_one = twenty_one;
     archive_1 = archive_1;
+    strict_is_in_order = strict_is_in_order;
+    entries_agree = entries_agree;
   };
   linked = record {
     linked_promises = linked_promises;

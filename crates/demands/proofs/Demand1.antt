@@ -14,7 +14,7 @@ use Rattle.refusals.specs.Answers.{refusal_of}
 use Rattle.refusals.specs.Reasons.{answer_of, refusal_in}
 use Rattle.refusals.specs.declared.Refused.{Refused}
 use Rattle.refusals.proofs.Answers.{by_table}
-use Rattle.image.specs.Read.{Read, got, bad, read_all, read_refusal, reader_numbers, header_fits, any_version, source_fits}
+use Rattle.image.specs.Read.{Read, got, bad, read_all, read_earlier, read_refusal, reader_numbers, header_fits, any_version, source_fits}
 use Rattle.image.proofs.Numbers.{read_numbers}
 use Rattle.image.proofs.Answers.{read_refusal_lem}
 use Rattle.cut_rule.specs.Rules as rules
@@ -101,7 +101,12 @@ under_before k ns o u = record { of = λ r e. one_more (eqb r.number k) (is_one_
 
 -- ---- the tables
 pub read_under : (s b : List ℕ) → Under reader_numbers (read_refusal (read_all s b))
-read_under s b = under_read reader_numbers (read_all s b) (read_numbers s b)
+read_under s b = under_read reader_numbers (read_all s b) (read_numbers false s b)
+
+-- by either entry of layout
+entry_under : (archive : Bool) (s b : List ℕ) → Under reader_numbers ((parts_of s b).layout_image archive)
+entry_under true s b = under_read reader_numbers (read_earlier s b) (read_numbers true s b)
+entry_under false s b = read_under s b
 
 module _ (s b : List ℕ) where
   pub layout_under : (q : rules.LayoutArgs states.LayoutChoice) (z : states.LayoutState) (store : List ℕ)
@@ -109,8 +114,9 @@ module _ (s b : List ℕ) where
   layout_under q z store =
       let needed = cut.rows_needed (parts_of s b) q z in
       let later = reader_numbers ++ (12 ∷ 8 ∷ []) in
-      let read : Under layout_numbers (read_refusal (read_all s b)) =
-      under_before 20 later (read_refusal (read_all s b)) (under_more reader_numbers (12 ∷ 8 ∷ []) (read_refusal (read_all s b)) (read_under s b)) in
+      let image = (parts_of s b).layout_image q.archive in
+      let read : Under layout_numbers image =
+      under_before 20 later image (under_more reader_numbers (12 ∷ 8 ∷ []) image (entry_under q.archive s b)) in
       under_first layout_numbers (cut.layout_table (parts_of s b) q z store) (
         under_if layout_numbers (any (tests.chosen_tests (other_rule b q.choice.rule) q.choice.rule)) 20 0 refl,
         (
@@ -162,7 +168,8 @@ module _ (s b : List ℕ) where
 
   -- ---- a whole file
   -- 20, 1 to 7, 12 and 15
-  pub before_under : (ns : List ℕ) → is_one_of 20 ns ≡ true → is_one_of 12 ns ≡ true → is_one_of 15 ns ≡ true → Under ns (read_refusal (read_all s b)) → (c : FileChoice)
+  pub before_under : (ns : List ℕ) → is_one_of 20 ns ≡ true → is_one_of 12 ns ≡ true → is_one_of 15 ns ≡ true
+      → Under ns (read_refusal (read_all s b)) → (c : FileChoice)
       → AllUnder ns (file_before_rows s b c)
   before_under ns twenty twelve fifteen read c = (
     under_if ns (any (tests.chosen_tests (other_rule b c.rule) c.rule)) 20 0 twenty,

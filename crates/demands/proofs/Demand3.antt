@@ -5,7 +5,8 @@ use mathlib.Core.List.{List, [], ◌∷◌, map, append-nil}
 use Prim.Native.Nat.{ℕ}
 use lib.ListN.{length}
 use Rattle.refusals.specs.Answers.{Answer}
-use Rattle.image.specs.Read.{read_all, read_refusal}
+use Rattle.image.specs.Read.{read_earlier}
+use Rattle.image.proofs.Earlier.{none_either}
 use Rattle.cut_rule.specs.Run.{Call, Carried, CallResult, layout_call, render_call, start, call, run, answer, answers}
 use Rattle.cut_rule.specs.Entries.{entry_call}
 use Rattle.cut_rule.specs.CutRule.{CommentsKept, CutRule}
@@ -13,7 +14,7 @@ use Rattle.cut_rule.specs.Callers.{after_all, AllKept}
 use Rattle.cut_rule.proofs.Entries.{entries_are_calls}
 use Rattle.cut_rule.proofs.Answers.{laid_by, all_held}
 use mathlib.Core.Bool.{false}
-use Rattle.std.specs.Prelude.{None, Result, Ok, Err}
+use Rattle.std.specs.Prelude.{Result, Ok, Err}
 use Rattle.refusals.specs.Refusals.{any, refuse_if}
 use Rattle.refusals.proofs.Groups.{passes_left, passes_line, passes_others, not_if}
 use Rattle.cut_rule.specs.States as states
@@ -93,7 +94,7 @@ made_run s b store₀ marks₀ made p =
 pub demand_3 : Demand3
 demand_3 s b store₀ marks₀ made p h =
     let w = fresh_caller store₀ marks₀ in
-    let rule = rules_cut (read_all s b) s b store₀ marks₀ (map (call_made s b) made) h in
+    let rule = rules_cut (read_earlier s b) s b store₀ marks₀ (map (call_made s b) made) h in
     record {
       as_due =
           held_as_due s b store₀ marks₀ (map (call_made s b) made) _ (made_run s b store₀ marks₀ made p) rule;
@@ -117,10 +118,11 @@ closing_leaves_none s b state args store t left store2 p closes new =
     let laid_out_lem = laid_by (rules_of s b) ((rules_of s b).layout_refusal q z store) (layout.to_state t) left given.state given.left p.answer in
     let lines = passes_left (before_rows P q z store) (rows_line P q z store) laid_out_lem.passes in
     let twelve = refuse_if (any (layout_tests P q z store)) 12 0 in
-    let reads = passes_others (rule_line (other_rule b args.rule) args.rule) (P.layout_image ∷ twelve ∷ []) lines in
-    let read : read_refusal (read_all s b) ≡ None = passes_line P.layout_image (twelve ∷ []) reads in
+    let image = P.layout_image args.archive in
+    let reads = passes_others (rule_line (other_rule b args.rule) args.rule) (image ∷ twelve ∷ []) lines in
+    let read = none_either args.archive s b (passes_line image (twelve ∷ []) reads) in
     let tests : any (layout_tests P q z store) ≡ false =
-    not_if (any (layout_tests P q z store)) 12 0 (passes_line twelve [] (passes_others P.layout_image (twelve ∷ []) reads))
+    not_if (any (layout_tests P q z store)) 12 0 (passes_line twelve [] (passes_others image (twelve ∷ []) reads))
     in
     let all = closing_places_all s b store q z read tests closes new in
     record {

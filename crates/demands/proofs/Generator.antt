@@ -44,9 +44,9 @@ write_under l room =
 pub list_under : (s b : List ℕ) (room : ℕ) → Under steps_numbers (steps_of_refusal s b room)
 list_under s b room =
     let long = ltb room (length (steps_due s b)) in
-    under_first steps_numbers (read_refusal (read_version 1 false s b) ∷ refuse_if long 17 (length (steps_due s b)) ∷ []) (
-      under_more reader_numbers (17 ∷ []) (read_refusal (read_version 1 false s b))
-          (under_read reader_numbers (read_version 1 false s b) (numbers_with (eqb 1) false s b)),
+    under_first steps_numbers (read_refusal (read_version 1 true s b) ∷ refuse_if long 17 (length (steps_due s b)) ∷ []) (
+      under_more reader_numbers (17 ∷ []) (read_refusal (read_version 1 true s b))
+          (under_read reader_numbers (read_version 1 true s b) (numbers_with (eqb 1) true s b)),
       (under_if steps_numbers long 17 (length (steps_due s b)) refl, tt),
     )
 
@@ -138,11 +138,11 @@ turned_by l b out r out2 t p h =
 record Listed (s b : List ℕ) (m : ℕ) (out2 : List ℕ) : Type 0 where
   pub image : Image
   pub end : ℕ
-  pub read : read_version 1 false s b ≡ got image end
+  pub read : read_version 1 true s b ≡ got image end
   pub steps : take m out2 ≡ steps_of b image
 
 listed : (s b out : List ℕ) (m : ℕ) (out2 : List ℕ) → Lists s b out (Ok m) out2 → Listed s b m out2
-listed s b out m out2 p = go (read_version 1 false s b) refl
+listed s b out m out2 p = go (read_version 1 true s b) refl
   where
     due : List ℕ
     due = steps_due s b
@@ -153,15 +153,15 @@ listed s b out m out2 p = go (read_version 1 false s b) refl
     fits : steps_of_refusal s b (length out) ≡ None → length due ≤ length out
     fits e =
         ltb-false (length out) (length due)
-        (not_if (ltb (length out) (length due)) 17 (length due) (passes_line line [] (passes_others (read_refusal (read_version 1 false s b)) (line ∷ []) e)))
+        (not_if (ltb (length out) (length due)) 17 (length due) (passes_line line [] (passes_others (read_refusal (read_version 1 true s b)) (line ∷ []) e)))
 
     whole : Front (steps_of_refusal s b (length out)) due m out2
     whole = front (steps_of_refusal s b (length out)) due out m out2 p.0 p.1 fits
 
-    go : (x : Read Image) → read_version 1 false s b ≡ x → Listed s b m out2
+    go : (x : Read Image) → read_version 1 true s b ≡ x → Listed s b m out2
     go (got i end) e = record { image = i; end = end; read = e; steps = whole.bytes ∙ ap (steps_by b) e }
     go (bad n q) e =
-        absurd (options.never _ (sym (ap read_refusal e) ∙ passes_line (read_refusal (read_version 1 false s b)) (line ∷ []) whole.passed))
+        absurd (options.never _ (sym (ap read_refusal e) ∙ passes_line (read_refusal (read_version 1 true s b)) (line ∷ []) whole.passed))
 
 -- ---- the two sentences
 the_list : (s b out : List ℕ) (m : ℕ) (out2 : List ℕ) → Bytes b → Lists s b out (Ok m) out2 → TheList b (take m out2)
@@ -176,14 +176,14 @@ the_list s b out m out2 small p =
 
 -- a refusal of the steps of an image is the reader's, or 17
 refused_as : (s b out : List ℕ) (r : Result ℕ Refused) (out2 : List ℕ) (q : Refusal) → Lists s b out r out2 → refusal_in r ≡ Some q
-    → ((n p : ℕ) → read_version 1 false s b ≡ bad n p → is_one_of n (1 ∷ 2 ∷ 6 ∷ 7 ∷ []) ≡ true)
+    → ((n p : ℕ) → read_version 1 true s b ≡ bad n p → is_one_of n (1 ∷ 2 ∷ 6 ∷ 7 ∷ []) ≡ true)
     → is_one_of q.number (1 ∷ 2 ∷ 6 ∷ 7 ∷ 17 ∷ []) ≡ true
 refused_as s b out r out2 q p e by =
     let due = steps_due s b in
     let ns : List ℕ = 1 ∷ 2 ∷ 6 ∷ 7 ∷ [] in
-    let read = under_read ns (read_version 1 false s b) by in
-    (under_first (ns ++ (17 ∷ [])) (read_refusal (read_version 1 false s b) ∷ refuse_if (ltb (length out) (length due)) 17 (length due) ∷ []) (
-      under_more ns (17 ∷ []) (read_refusal (read_version 1 false s b)) read,
+    let read = under_read ns (read_version 1 true s b) by in
+    (under_first (ns ++ (17 ∷ [])) (read_refusal (read_version 1 true s b) ∷ refuse_if (ltb (length out) (length due)) 17 (length due) ∷ []) (
+      under_more ns (17 ∷ []) (read_refusal (read_version 1 true s b)) read,
       (under_if (ns ++ (17 ∷ [])) (ltb (length out) (length due)) 17 (length due) refl, tt),
     )
     ).of q (sym (as_answer (λ n. n) r ∙ ap refusal_of p.0 ∙ by_table (steps_of_refusal s b (length out)) (length due)) ∙ e)

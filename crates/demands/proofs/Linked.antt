@@ -234,8 +234,8 @@ linked_promises = record {
       (check_told s b out out2 e)
       ∙ sym (outcome_by x);
   layout =
-      λ s b store state args out store2 out2 h p.
-      let q = layout.to_args (layout_args args) in
+      λ archive s b store state args out store2 out2 h p.
+      let q = layout.to_args (layout_args archive args) in
       let z = layout.to_state (layout_state state) in
       let o = (rules_of s b).layout_refusal q z store in
       record {
@@ -360,8 +360,8 @@ linked_1 = record {
       (λ r f. tt)
       (check_told s b out out2 e);
   layout =
-      λ s b store state args out store2 out2 h p.
-      let q = layout.to_args (layout_args args) in
+      λ archive s b store state args out store2 out2 h p.
+      let q = layout.to_args (layout_args archive args) in
       let z = layout.to_state (layout_state state) in
       told_first (told_call s b) layout_numbers ((rules_of s b).layout_refusal q z store) (laid_out _ _) out out2 _ (layout_under s b q z store)
       (omega arith)
@@ -434,13 +434,14 @@ linked_1 = record {
 }
 
 -- ---- demand 2: where 0 is first, the answer is the accepted one
-pub linked_layout : (s b store state args out store2 out2 : List ℕ) → length out ≡ 11 → Lays s b store state args out store2 out2
+pub linked_layout : (archive : Bool) (s b store state args out store2 out2 : List ℕ) → length out ≡ 11
+    → Lays archive s b store state args out store2 out2
     → get_or out2 0 0 ≡ 0
-    → LayoutCalled s b (layout_state state) (layout_args args) store
+    → LayoutCalled s b (layout_state state) (layout_args archive args) store
     (Ok (record { state = layout_state (take 9 (drop 2 out2)); left = get_or out2 1 0 })) store2
-linked_layout s b store state args out store2 out2 h p e =
-    subst (λ (r : Result Laid Refused). LayoutCalled s b (layout_state state) (layout_args args) store r store2) (from_accepted _ out2 e)
-    (linked_promises.layout s b store state args out store2 out2 h p)
+linked_layout archive s b store state args out store2 out2 h p e =
+    subst (λ (r : Result Laid Refused). LayoutCalled s b (layout_state state) (layout_args archive args) store r store2) (from_accepted _ out2 e)
+    (linked_promises.layout archive s b store state args out store2 out2 h p)
 
 pub linked_render : (s b store marks output state args out store2 marks2 output2 out2 : List ℕ) → length out ≡ 9
     → Renders s b store marks output state args out store2 marks2 output2 out2
@@ -474,12 +475,19 @@ linked_batch f choice table output out table2 output2 out2 h p e =
 
 pub linked_2 : Linked2
 linked_2 = record {
-  at_stop = λ s b store stop mode rule out store2 out2 h p e. demand_2.at_stop s b store mode rule stop _ _ store2 (linked_layout s b store _ _ out store2 out2 h p e);
-  closed = λ s b store rule out store2 out2 h p e. demand_2.closed s b store rule _ _ store2 (linked_layout s b store _ _ out store2 out2 h p e);
-  closed_keeping = λ s b store rule out store2 out2 h p e. demand_2.closed_keeping s b store rule _ _ store2 (linked_layout s b store _ _ out store2 out2 h p e);
+  at_stop =
+      λ archive s b store stop mode rule out store2 out2 h p e.
+      demand_2.at_stop archive s b store mode rule stop _ _ store2 (linked_layout archive s b store _ _ out store2 out2 h p e);
+  closed =
+      λ archive s b store rule out store2 out2 h p e.
+      demand_2.closed archive s b store rule _ _ store2 (linked_layout archive s b store _ _ out store2 out2 h p e);
+  closed_keeping =
+      λ archive s b store rule out store2 out2 h p e.
+      demand_2.closed_keeping archive s b store rule _ _ store2 (linked_layout archive s b store _ _ out store2 out2 h p e);
   rendered =
-      λ s b store mode rule out store2 out2 h p e width marks output out3 store3 marks2 output2 out4 k q f.
-      demand_2.rendered s b store mode rule _ _ store2 (linked_layout s b store _ _ out store2 out2 h p e) width marks output _ _ store3 marks2 output2
+      λ archive s b store mode rule out store2 out2 h p e width marks output out3 store3 marks2 output2 out4 k q f.
+      let laid_out_lem = linked_layout archive s b store _ _ out store2 out2 h p e in
+      demand_2.rendered archive s b store mode rule _ _ store2 laid_out_lem width marks output _ _ store3 marks2 output2
       (linked_render s b store2 marks output _ _ out3 store3 marks2 output2 out4 k q f);
   file = λ s b choice output out output2 out2 h p e. demand_2.file s b _ output _ _ _ _ output2 (linked_file s b choice output out output2 out2 h p e);
 }
@@ -496,7 +504,7 @@ caller_of w = record {
 }
 
 after_one : (w : Holder) (m : LinkedCall) → caller_of (after_linked w m) ≡ after_made (caller_of w) (made_linked m)
-after_one w (laid args out store2 out2) = go (eqb (get_or out2 0 0) 0)
+after_one w (laid archive args out store2 out2) = go (eqb (get_or out2 0 0) 0)
   where
     new : List ℕ
     new = take 9 (drop 2 out2)
@@ -514,7 +522,7 @@ after_one w (laid args out store2 out2) = go (eqb (get_or out2 0 0) 0)
           left = cond x (Some (get_or out2 1 0)) w.left;
         })
         ≡ after_made (caller_of w)
-        (made.laid (layout_args args) (cond x (Ok (record { state = layout_state new; left = get_or out2 1 0 })) (Err told)) store2)
+        (made.laid (layout_args archive args) (cond x (Ok (record { state = layout_state new; left = get_or out2 1 0 })) (Err told)) store2)
     go true = refl
     go false = refl
 after_one w (rendered args output out store2 marks2 output2 out2) = go (eqb (get_or out2 0 0) 0)
@@ -555,7 +563,7 @@ after_linked_lem w (m ∷ ms) = after_linked_lem (after_linked w m) ms ∙ ap (�
 
 module _ (s b : List ℕ) where
   promised : (w : Holder) (m : LinkedCall) → LinkedPromised s b w m → Promised s b (caller_of w) (made_linked m)
-  promised w (laid args out store2 out2) p = linked_promises.layout s b w.store w.layout_state_of args out store2 out2 p.0 p.1
+  promised w (laid archive args out store2 out2) p = linked_promises.layout archive s b w.store w.layout_state_of args out store2 out2 p.0 p.1
   promised w (rendered args output out store2 marks2 output2 out2) p =
       linked_promises.render s b w.store w.marks output w.render_state_of args out store2 marks2 output2 out2 p.0 p.1
 
@@ -568,7 +576,7 @@ module _ (s b : List ℕ) where
   )
 
   same_call : (m : LinkedCall) → call_made s b (made_linked m) ≡ call_linked s b m
-  same_call (laid args out store2 out2) = refl
+  same_call (laid archive args out store2 out2) = refl
   same_call (rendered args output out store2 marks2 output2 out2) = refl
 
   same_calls : (ms : List LinkedCall) → map (call_made s b) (map made_linked ms) ≡ map (call_linked s b) ms

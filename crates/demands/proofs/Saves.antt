@@ -16,7 +16,8 @@ use Rattle.batch.proofs.Buffer.{cut_number}
 use Rattle.batch.proofs.Rooms.{early, single_by}
 use Rattle.batch.proofs.Singles.{as_singles}
 use Rattle.demands.specs.Saves.{batch_numbers, row_numbers, Saves1}
-use Rattle.demands.proofs.Demand1.{Under, under_if, under_first, under_read, under_more, under_before, read_under, before_under, early_under, answered, left_same, as_answer}
+use Rattle.demands.proofs.Demand1.{Under, under_if, under_first, under_read, under_more, under_before, read_under, before_under, early_under}
+use Rattle.demands.proofs.Demand1.{answered, left_same, as_answer}
 
 -- ---- the batch's table
 frames_under : (f : List ℕ) → Under batch_numbers (read_refusal (all_saves f))

@@ -9,7 +9,7 @@ use lib.ListN.{length, take, length-append}
 use Rattle.refusals.specs.Refusals.{Refusal, unless}
 use Rattle.refusals.specs.Answers.{Answer, refused, accepted, answer_by}
 use Rattle.refusals.proofs.Answers.{accepted_by}
-use Rattle.image.specs.Read.{read_all, read_refusal}
+use Rattle.image.specs.Read.{read_earlier, read_refusal}
 use Rattle.cut_rule.specs.Run.{write_front, Carried}
 use Rattle.cut_rule.proofs.Memory.{take_front}
 use Rattle.whole_run.specs.Parts.{listed}
@@ -81,8 +81,8 @@ pub closed_calls_hold_all : ClosedCallsHoldAll
 closed_calls_hold_all s b w k e closed new = kept_comments_held s b _ _ _ (k.all e closed new)
 
 -- ---- a batch
-accepted_read : (s b : List ℕ) (c : FileChoice) (room : ℕ) → file_refusal s b c room ≡ no_refusal → read_refusal (read_all s b) ≡ no_refusal
-accepted_read s b c room e = (laid_passed s b c file_rows (before_marks_lem s b c file_rows file_marks room e)).read
+accepted_read : (s b : List ℕ) (c : FileChoice) (room : ℕ) → file_refusal s b c room ≡ no_refusal → read_refusal (read_earlier s b) ≡ no_refusal
+accepted_read s b c room e = (laid_passed s b c file_rows (before_marks_lem s b c file_rows file_marks room e)).earlier
 
 module _ (c : FileChoice) where
   one_kept : (x : Save) {xs : List Save} {table texts : List ℕ} → EachKept c xs table texts

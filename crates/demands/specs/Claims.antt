@@ -17,7 +17,8 @@ use Rattle.layout_facts.specs.Accepted.{FewRows, WordsDue}
 use Rattle.layout_facts.specs.BlankLines.{BlankLines}
 use Rattle.layout_facts.specs.Binop.{BinopAsRust}
 use Rattle.layout_facts.specs.Tokens.{SaysTheProgram, FmtParsedSaysTheProgram, SlashWords}
-use Rattle.whole_run.specs.Demands.{RulesCut, DueIsFmtParsed, LaidWithinLimits}
+use Rattle.tree.specs.InOrder.{StrictIsInOrder}
+use Rattle.whole_run.specs.Demands.{RulesCut, EntriesAgree, DueIsFmtParsed, LaidWithinLimits}
 use Rattle.whole_run.specs.Edges.{EdgesHold, WidthsHold, EmptyLineHolds}
 use Rattle.whole_run.specs.File.{OldModeIsFmtParsed, NewModeLeavesNone}
 use Rattle.whole_run.specs.FileLimits.{FileTextLimited, FileColumnLimited}
@@ -130,6 +131,10 @@ pub record TheRequests : Type 0 where
   pub forward_after_back : ForwardAfterBack
   pub twenty_one : TwentyOne
   pub archive_1 : Archive1
+  -- 10: "a comment must start at or after the end of the one before"; the archive entry "reads by the earlier rule and answers as before". That
+  -- the cut rule "holds at both entries" is `demand_3`, whose calls are of either.
+  pub strict_is_in_order : StrictIsInOrder
+  pub entries_agree : EntriesAgree
 
 -- all of it of the functions that other languages link
 pub record TheLinked : Type 0 where

@@ -6,7 +6,7 @@
 -- that is accepted, by each rule of width. The old mode is the Rust's; of the new one it is said what closing adds, and that no comment is left.
 -- What a rule changes in the rows: `laid_nodes` (crates/node_widths/specs/Summed.antt), the sum in each `Str`.
 -- That the Rust's own choices give what there was before one could be made is `ReferenceHolds` (crates/whole_run/specs/Reference.antt).
-use Rattle.std.specs.Prelude.{◌≡◌, true, false, List, ℕ, ◌-◌, length, take, Ok}
+use Rattle.std.specs.Prelude.{◌≡◌, Bool, true, false, List, ℕ, ◌-◌, length, take, Ok}
 use Rattle.rows.specs.Rows.{sizes, rows}
 use Rattle.rows.specs.declared.units.Bytes.{Bytes}
 use Rattle.acts.specs.Act.{Out}
@@ -39,23 +39,24 @@ pub record LaidOutAs (rule : ℕ) (s b : List ℕ) (o : Out) (store : List ℕ) 
   pub placed_due : t.placed ≡ o.placed
   pub left_due_of : left ≡ length (comments_of b) - o.placed
 
--- a layout call from fresh up to declaration n, in either mode: "those `fmt_parsed` has when its loop reaches that declaration"
+-- a layout call from fresh up to declaration n, by either entry, in either mode: "those `fmt_parsed` has when its loop reaches that declaration"
 abbrev pub AtStopDue : Type 0
-AtStopDue = (s b store : List ℕ) (mode rule n : ℕ) (t : LayoutState) (left : ℕ) (store2 : List ℕ)
-    → LayoutCalled s b fresh_layout (record { stop = n; close = false; mode = mode; rule = rule }) store (Ok (record { state = t; left = left })) store2
+AtStopDue = (archive : Bool) (s b store : List ℕ) (mode rule n : ℕ) (t : LayoutState) (left : ℕ) (store2 : List ℕ)
+    → LayoutCalled s b fresh_layout (record { stop = n; close = false; mode = mode; rule = rule; archive = archive }) store
+    (Ok (record { state = t; left = left })) store2
     → LaidOutAs rule s b (up_to (given s b) (tree s b) (take n (declared s b)) fresh) store t left store2
 
 -- and closing in the old mode: those that it has in the end
 abbrev pub ClosedDue : Type 0
-ClosedDue = (s b store : List ℕ) (rule : ℕ) (t : LayoutState) (left : ℕ) (store2 : List ℕ)
-    → LayoutCalled s b fresh_layout (record { stop = length (declared s b); close = true; mode = OLD_MODE; rule = rule }) store
+ClosedDue = (archive : Bool) (s b store : List ℕ) (rule : ℕ) (t : LayoutState) (left : ℕ) (store2 : List ℕ)
+    → LayoutCalled s b fresh_layout (record { stop = length (declared s b); close = true; mode = OLD_MODE; rule = rule; archive = archive }) store
     (Ok (record { state = t; left = left })) store2
     → LaidOutAs rule s b (fmt_parsed (given s b) (tree s b) fresh) store t left store2
 
 -- and in the new mode: the same, with every comment that waits before the final `Line`; "0 left"
 abbrev pub ClosedKeepingDue : Type 0
-ClosedKeepingDue = (s b store : List ℕ) (rule : ℕ) (t : LayoutState) (left : ℕ) (store2 : List ℕ)
-    → LayoutCalled s b fresh_layout (record { stop = length (declared s b); close = true; mode = NEW_MODE; rule = rule }) store
+ClosedKeepingDue = (archive : Bool) (s b store : List ℕ) (rule : ℕ) (t : LayoutState) (left : ℕ) (store2 : List ℕ)
+    → LayoutCalled s b fresh_layout (record { stop = length (declared s b); close = true; mode = NEW_MODE; rule = rule; archive = archive }) store
     (Ok (record { state = t; left = left })) store2
     → LaidOutAs rule s b (whole_rule (given s b) (tree s b) true fresh) store t left store2 × (left ≡ 0)
 
@@ -66,10 +67,10 @@ pub record DrawnAs (s b : List ℕ) (c : FileChoice) (marks out : List ℕ) (byt
   pub bytes_due : bytes ≡ length (drawn_due s b c).text
   pub text_due : out2 ≡ write_front (drawn_due s b c).text out
 
--- a rendering call from fresh over all rows that such a layout call left, in the mode, at the width and by the rule that the two chose
+-- a rendering call from fresh over all rows that such a layout call, by either entry, left, in the mode, at the width and by the rule that the two chose
 abbrev pub RenderedDue : Type 0
-RenderedDue = (s b store : List ℕ) (mode rule : ℕ) (t : LayoutState) (left : ℕ) (store2 : List ℕ)
-    → LayoutCalled s b fresh_layout (record { stop = length (declared s b); close = true; mode = mode; rule = rule }) store
+RenderedDue = (archive : Bool) (s b store : List ℕ) (mode rule : ℕ) (t : LayoutState) (left : ℕ) (store2 : List ℕ)
+    → LayoutCalled s b fresh_layout (record { stop = length (declared s b); close = true; mode = mode; rule = rule; archive = archive }) store
     (Ok (record { state = t; left = left })) store2
     → (width : ℕ) (marks out : List ℕ) (u : RenderState) (n : Bytes) (store3 marks2 out2 : List ℕ)
     → RenderCalled s b fresh_render (record { stop = t.row; width = record { 0 = width }; rule = rule }) store2 marks out

@@ -1,9 +1,9 @@
 -- The functions that other languages link, `rrufthim_check`, `rrufthim_layout`, `rrufthim_render`, `rrufthim_format`, `rrufthim_count`,
--- `rrufthim_write`, `rrufthim_steps`, `rrufthim_batch`, `rrufthim_columns`, `rrufthim_forward` and
--- `rrufthim_back`. Their answers and states are arrays of so many numbers. What the numbers of an
--- answer tell is an answer of the function in Rattle, and that function's promise holds of it (`LinkedPromises`). So the three demands and the
+-- `rrufthim_write`, `rrufthim_steps`, `rrufthim_batch`, `rrufthim_columns`, `rrufthim_forward`,
+-- `rrufthim_back` and `rrufthim_layout_archived`, which `archive` tells from `rrufthim_layout`. Their answers and states are arrays of so many
+-- numbers. What the numbers of an answer tell is an answer of the function in Rattle, and that function's promise holds of it (`LinkedPromises`). So the three demands and the
 -- sentences of requests 4, 5 and 7 hold of what is linked. proofs/Linked.antt proves it.
-use Rattle.std.specs.Prelude.{◌≡◌, true, false, cond, List, [], ◌∷◌, ◌++◌, map, ℕ, eqb, length, get_or, take, drop, replicate, Option}
+use Rattle.std.specs.Prelude.{◌≡◌, Bool, true, false, cond, List, [], ◌∷◌, ◌++◌, map, ℕ, eqb, length, get_or, take, drop, replicate, Option}
 use Rattle.std.specs.Prelude.{None, Some, Result, Ok, Err}
 use Rattle.refusals.specs.Refusals.{Refusal, is_one_of}
 use Rattle.refusals.specs.declared.Reason.{Reason}
@@ -125,8 +125,8 @@ columns_from o = answer_from (record { 0 = get_or o 1 0 }) o
 pub record LinkedPromises : Type 0 where
   pub check : (s b out out2 : List ℕ) → length out ≡ 4 → ChecksFile s b out out2
       → Checks s b (checked_from out2)
-  pub layout : (s b store state args out store2 out2 : List ℕ) → length out ≡ 11 → Lays s b store state args out store2 out2
-      → LayoutCalled s b (layout_state state) (layout_args args) store (laying_from out2) store2
+  pub layout : (archive : Bool) (s b store state args out store2 out2 : List ℕ) → length out ≡ 11 → Lays archive s b store state args out store2 out2
+      → LayoutCalled s b (layout_state state) (layout_args archive args) store (laying_from out2) store2
   pub render : (s b store marks output state args out store2 marks2 output2 out2 : List ℕ) → length out ≡ 9
       → Renders s b store marks output state args out store2 marks2 output2 out2
       → RenderCalled s b (render_state state) (render_args args) store marks output (rendering_from out2) store2 marks2 output2
@@ -168,9 +168,9 @@ pub record Linked1 : Type 0 where
   pub check : (s b out out2 : List ℕ) → length out ≡ 4
       → ChecksFile s b out out2
       → Told reader_numbers (read_refusal (read_all s b)) out2 (Unit {0})
-  pub layout : (s b store state args out store2 out2 : List ℕ) → length out ≡ 11
-      → Lays s b store state args out store2 out2
-      → Told layout_numbers ((rules_of s b).layout_refusal (layout.to_args (layout_args args)) (layout.to_state (layout_state state)) store) out2
+  pub layout : (archive : Bool) (s b store state args out store2 out2 : List ℕ) → length out ≡ 11
+      → Lays archive s b store state args out store2 out2
+      → Told layout_numbers ((rules_of s b).layout_refusal (layout.to_args (layout_args archive args)) (layout.to_state (layout_state state)) store) out2
       (store2 ≡ store)
   pub render : (s b store marks output state args out store2 marks2 output2 out2 : List ℕ) → length out ≡ 9
       → Renders s b store marks output state args out store2 marks2 output2 out2
@@ -204,22 +204,22 @@ fresh_render_numbers = replicate 7 0
 
 -- calls from fresh that answer with 0 first leave what `fmt_parsed` builds and renders; states, comments left and bytes are the answer's numbers
 pub record Linked2 : Type 0 where
-  pub at_stop : (s b store : List ℕ) (stop mode rule : ℕ) (out store2 out2 : List ℕ) → length out ≡ 11
-      → Lays s b store fresh_layout_numbers (stop ∷ 0 ∷ mode ∷ rule ∷ []) out store2 out2
+  pub at_stop : (archive : Bool) (s b store : List ℕ) (stop mode rule : ℕ) (out store2 out2 : List ℕ) → length out ≡ 11
+      → Lays archive s b store fresh_layout_numbers (stop ∷ 0 ∷ mode ∷ rule ∷ []) out store2 out2
       → get_or out2 0 0 ≡ 0
       → LaidOutAs rule s b (up_to (given s b) (tree s b) (take stop (declared s b)) fresh) store (layout_state (take 9 (drop 2 out2))) (get_or out2 1 0) store2
-  pub closed : (s b store : List ℕ) (rule : ℕ) (out store2 out2 : List ℕ) → length out ≡ 11
-      → Lays s b store fresh_layout_numbers (length (declared s b) ∷ 1 ∷ OLD_MODE ∷ rule ∷ []) out store2 out2
+  pub closed : (archive : Bool) (s b store : List ℕ) (rule : ℕ) (out store2 out2 : List ℕ) → length out ≡ 11
+      → Lays archive s b store fresh_layout_numbers (length (declared s b) ∷ 1 ∷ OLD_MODE ∷ rule ∷ []) out store2 out2
       → get_or out2 0 0 ≡ 0
       → LaidOutAs rule s b (fmt_parsed (given s b) (tree s b) fresh) store (layout_state (take 9 (drop 2 out2))) (get_or out2 1 0) store2
-  pub closed_keeping : (s b store : List ℕ) (rule : ℕ) (out store2 out2 : List ℕ) → length out ≡ 11
-      → Lays s b store fresh_layout_numbers (length (declared s b) ∷ 1 ∷ NEW_MODE ∷ rule ∷ []) out store2 out2
+  pub closed_keeping : (archive : Bool) (s b store : List ℕ) (rule : ℕ) (out store2 out2 : List ℕ) → length out ≡ 11
+      → Lays archive s b store fresh_layout_numbers (length (declared s b) ∷ 1 ∷ NEW_MODE ∷ rule ∷ []) out store2 out2
       → get_or out2 0 0 ≡ 0
       → LaidOutAs rule s b (whole_rule (given s b) (tree s b) true fresh) store (layout_state (take 9 (drop 2 out2))) (get_or out2 1 0) store2
       × (get_or out2 1 0 ≡ 0)
   -- a rendering over all rows of such a layout: its stop is the layout state's next row
-  pub rendered : (s b store : List ℕ) (mode rule : ℕ) (out store2 out2 : List ℕ) → length out ≡ 11
-      → Lays s b store fresh_layout_numbers (length (declared s b) ∷ 1 ∷ mode ∷ rule ∷ []) out store2 out2
+  pub rendered : (archive : Bool) (s b store : List ℕ) (mode rule : ℕ) (out store2 out2 : List ℕ) → length out ≡ 11
+      → Lays archive s b store fresh_layout_numbers (length (declared s b) ∷ 1 ∷ mode ∷ rule ∷ []) out store2 out2
       → get_or out2 0 0 ≡ 0
       → (width : ℕ) (marks output out3 store3 marks2 output2 out4 : List ℕ) → length out3 ≡ 9
       → Renders s b store2 marks output fresh_render_numbers ((layout_state (take 9 (drop 2 out2))).row ∷ width ∷ rule ∷ []) out3 store3 marks2 output2 out4
@@ -243,19 +243,19 @@ abbrev pub fresh_holder : List ℕ → List ℕ → Holder
 fresh_holder store₀ marks₀ =
     record { store = store₀; marks = marks₀; layout_state_of = fresh_layout_numbers; render_state_of = fresh_render_numbers; text = []; left = None }
 
--- a call that was made: its arguments, and the buffers at exit, the answer's array last
+-- a call that was made: of layout whether by the archive entry, then its arguments, and the buffers at exit, the answer's array last
 pub data LinkedCall : Type 0 where
-  laid : (args out store2 out2 : List ℕ) → LinkedCall
+  laid : (archive : Bool) (args out store2 out2 : List ℕ) → LinkedCall
   rendered : (args output out store2 marks2 output2 out2 : List ℕ) → LinkedCall
 
 abbrev pub LinkedPromised : (s b : List ℕ) → Holder → LinkedCall → Type 0
-LinkedPromised s b w (laid args out store2 out2) = (length out ≡ 11) × Lays s b w.store w.layout_state_of args out store2 out2
+LinkedPromised s b w (laid archive args out store2 out2) = (length out ≡ 11) × Lays archive s b w.store w.layout_state_of args out store2 out2
 LinkedPromised s b w (rendered args output out store2 marks2 output2 out2) =
     (length out ≡ 9) × Renders s b w.store w.marks output w.render_state_of args out store2 marks2 output2 out2
 
 -- what the caller holds after a call: the new state is the answer from its third place on
 abbrev pub after_linked : Holder → LinkedCall → Holder
-after_linked w (laid args out store2 out2) = record {
+after_linked w (laid archive args out store2 out2) = record {
   store = store2;
   marks = w.marks;
   layout_state_of = if_accepted out2 (take 9 (drop 2 out2)) w.layout_state_of;
@@ -274,7 +274,7 @@ after_linked w (rendered args output out store2 marks2 output2 out2) = record {
 
 -- the same in the words of the cut rule
 abbrev pub call_linked : (s b : List ℕ) → LinkedCall → Call (rules_of s b)
-call_linked s b (laid args out store2 out2) = layout_call (layout.to_args (layout_args args))
+call_linked s b (laid archive args out store2 out2) = layout_call (layout.to_args (layout_args archive args))
 call_linked s b (rendered args output out store2 marks2 output2 out2) = render_call (render.to_args (render_args args) (length output))
 
 abbrev pub held_linked : (s b : List ℕ) → Holder → Carried (rules_of s b)
@@ -289,7 +289,7 @@ held_linked s b w = record {
 
 -- the call as one of the functions in Rattle, with the answer that its numbers tell
 abbrev pub made_linked : LinkedCall → Made
-made_linked (laid args out store2 out2) = made.laid (layout_args args) (laying_from out2) store2
+made_linked (laid archive args out store2 out2) = made.laid (layout_args archive args) (laying_from out2) store2
 made_linked (rendered args output out store2 marks2 output2 out2) = made.rendered (render_args args) output (rendering_from out2) store2 marks2 output2
 
 -- what is held is what is due, and so is every answer

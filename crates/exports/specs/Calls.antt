@@ -1,5 +1,5 @@
 -- What the exported calls leave in each slice that they are lent.
-use Rattle.std.specs.Prelude.{◌≡◌, ℕ, List, length}
+use Rattle.std.specs.Prelude.{◌≡◌, Bool, ℕ, List, length}
 use Rattle.refusals.specs.Answers.{numbers_of}
 use Rattle.cut_rule.specs.Entries.{layout_answer, layout_store, render_answer, render_marks, render_output}
 use Rattle.whole_run.specs.Demands.{rules_of}
@@ -21,11 +21,11 @@ ChecksFile s b out out2 = out2 ≡ numbers_of (told_document (length (declared s
 abbrev pub CountsFile : List ℕ → List ℕ → List ℕ → List ℕ → List ℕ → Type 0
 CountsFile s b tallies out out2 = out2 ≡ numbers_of told_counted (count_answer s b (tallies_from tallies)) out
 
--- a layout call: the store, and the answer's numbers
-pub record Lays (s b store state args out store2 out2 : List ℕ) : Type 0 where
-  pub store_left_of : store2 ≡ layout_store (rules_of s b) (laying.to_args (layout_args args)) (laying.to_state (layout_state state)) store
+-- a layout call of the archive entry or the other: the store, and the answer's numbers
+pub record Lays (archive : Bool) (s b store state args out store2 out2 : List ℕ) : Type 0 where
+  pub store_left_of : store2 ≡ layout_store (rules_of s b) (laying.to_args (layout_args archive args)) (laying.to_state (layout_state state)) store
   pub told_as : out2
-      ≡ numbers_of (told_call s b) (layout_answer (rules_of s b) (laying.to_args (layout_args args)) (laying.to_state (layout_state state)) store) out
+      ≡ numbers_of (told_call s b) (layout_answer (rules_of s b) (laying.to_args (layout_args archive args)) (laying.to_state (layout_state state)) store) out
 
 -- a rendering call: the store as it was, marks, output, and the answer's numbers
 pub record Renders (s b store marks output state args out store2 marks2 output2 out2 : List ℕ) : Type 0 where

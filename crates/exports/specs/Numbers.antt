@@ -48,9 +48,15 @@ render_state l = record {
 }
 
 -- ---- arguments and choices
--- the declaration to stop before, whether to close, the mode, and the rule of width
-abbrev pub layout_args : List ℕ → LayoutArgs
-layout_args l = record { stop = get_or l 0 0; close = flag (get_or l 1 0); mode = get_or l 2 0; rule = get_or l 3 0 }
+-- the declaration to stop before, whether to close, the mode, and the rule of width, by the entry: the archive's, or the other
+abbrev pub layout_args : Bool → List ℕ → LayoutArgs
+layout_args archive l = record {
+  stop = get_or l 0 0;
+  close = flag (get_or l 1 0);
+  mode = get_or l 2 0;
+  rule = get_or l 3 0;
+  archive = archive;
+}
 
 -- the row to stop before, the width, and the rule
 abbrev pub render_args : List ℕ → RenderArgs

@@ -10,7 +10,7 @@ pub mod measures;
 mod numbers;
 pub mod saves;
 
-ghost use Rattle.std.specs.Prelude.{◌≡◌, [], ◌∷◌, length};
+ghost use Rattle.std.specs.Prelude.{◌≡◌, false, [], ◌∷◌, length};
 ghost use Rattle.std.proofs.lemmas.List.Edits.{sets};
 ghost use Rattle.refusals.specs.Reasons.{answer_of};
 ghost use Rattle.text.specs.Newlines.{count_newlines};
@@ -36,7 +36,7 @@ use text::newlines::count_newlines;
 fn document_numbers(source: &[u8], image: &[u8]) -> Result<[u64; 3], Refused>
     ensures { answer_of (λ l. l) result ≡ told_in (told_document (length (declared source.now image.now))) (outcome (read_all source.now image.now)) }
 {
-    let file = Accepted::check(source, image)?;
+    let file = Accepted::check(source, image, false)?;
     Ok([
         file.doc.comments as u64,
         file.doc.tree as u64,
@@ -54,7 +54,7 @@ pub fn rrufthim_check_s2(source: &[u8], image: &[u8], out: &mut [u64; 4])
 
 // A layout call. The state: begun, closed, next declaration, next row, next number, comments placed, position, mode, rule. The arguments:
 // the declaration to stop before, whether to close, the mode, and the rule of width. `out` gets the refusal's number and place, or 0, the
-// comments left and the new state.
+// comments left and the new state. A comment that starts before the end of the one before is refused by 7 (archive.rt has the archive entry).
 pub fn rrufthim_layout_s2(
     source: &[u8],
     image: &[u8],
@@ -63,9 +63,10 @@ pub fn rrufthim_layout_s2(
     args: &[u64; 4],
     out: &mut [u64; 11],
 )
-    ensures { Lays source.now image.now store.old state.now args.now out.old store.new out.new }
+    ensures { Lays false source.now image.now store.old state.now args.now out.old store.new out.new }
 {
-    let laid = layout_call(source, image, store, layout_state(state), layout_args(args));
+    let call = layout_args(args, false);
+    let laid = layout_call(source, image, store, layout_state(state), call);
     put_answer(out, laid.map(laid_numbers));
 }
 

@@ -33,14 +33,15 @@ pub(crate) fn layout_state(from: &[u64; 9]) -> LayoutState
     }
 }
 
-pub(crate) fn layout_args(from: &[u64; 4]) -> LayoutArgs
-    ensures { result ≡ layout_args from.now }
+pub(crate) fn layout_args(from: &[u64; 4], archive: bool) -> LayoutArgs
+    ensures { result ≡ layout_args archive from.now }
 {
     LayoutArgs {
         stop: from[0] as usize,
         close: from[1] != 0,
         mode: from[2] as usize,
         rule: from[3] as usize,
+        archive,
     }
 }
 

@@ -3,7 +3,7 @@
 // kept: the C interface: C hands over each buffer and array as a parameter of its own.
 #![tactic(auto)]
 
-ghost use Rattle.std.specs.Prelude.{◌≡◌};
+ghost use Rattle.std.specs.Prelude.{◌≡◌, true, false};
 ghost use Rattle.std.proofs.lemmas.List.Edits.{sets};
 ghost use Rattle.text.specs.Newlines.{count_newlines};
 ghost use Rattle.exports.specs.Numbers.{told_newlines};
@@ -29,7 +29,7 @@ pub extern "C" fn rrufthim_layout_s2(
     args: &[u64; 4],
     out: &mut [u64; 11],
 )
-    ensures { Lays source.now image.now store.old state.now args.now out.old store.new out.new }
+    ensures { Lays false source.now image.now store.old state.now args.now out.old store.new out.new }
 {
     exports::rrufthim_layout_s2(source, image, store, state, args, out);
 }
@@ -119,6 +119,20 @@ pub extern "C" fn rrufthim_columns_s2(text: &[u8], rule: u64, supplied: u64, out
     ensures { MeasuresText text.now rule supplied out.old out.new }
 {
     exports::measures::rrufthim_columns_s2(text, rule, supplied, out);
+}
+
+#[unsafe(no_mangle)]
+pub extern "C" fn rrufthim_layout_archived_s2(
+    source: &[u8],
+    image: &[u8],
+    store: &mut [u32],
+    state: &[u64; 9],
+    args: &[u64; 4],
+    out: &mut [u64; 11],
+)
+    ensures { Lays true source.now image.now store.old state.now args.now out.old store.new out.new }
+{
+    exports::archive::rrufthim_layout_archived_s2(source, image, store, state, args, out);
 }
 
 #[unsafe(no_mangle)]

@@ -7,7 +7,7 @@ use mathlib.Core.List.{List}
 use Prim.Native.Nat.{ℕ, ◌≤◌}
 use native.Mathlib.Omega.{arith}
 use lib.ListN.{length, get_or, replicate, length-replicate}
-use Rattle.image.specs.Read.{read_all}
+use Rattle.image.specs.Read.{read_earlier}
 use Rattle.tree.specs.CommentList.{comments_of}
 use Rattle.comments.specs.Listed.{given}
 use Rattle.renderer_rules.proofs.Names.{renders_same}
@@ -54,7 +54,7 @@ module _ (s b : List ℕ) where
       ∙ length-replicate (marks_due s b reference_choice) 0
 
   -- ---- what is known of a tree that stands in its image
-  module _ (at : ℕ) (a : Stands (given s b) (accepted_tree b (read_all s b)) at) where
+  module _ (at : ℕ) (a : Stands (given s b) (accepted_tree b (read_earlier s b)) at) where
     bounds : limits.Within (given s b) (built s b reference_choice)
     bounds = closed_within a (keeps_waiting OLD_MODE)
 
@@ -90,14 +90,15 @@ module _ (s b : List ℕ) where
               (renders_same i (laid s b reference_choice) (page (render_choice reference_choice) s b) true
               (renderer_of render_fresh.pen (replicate (marks_due s b reference_choice) 0))
               (laid_names SUPPLIED s b i (built s b reference_choice).nodes
-              ∙ whole_below (given s b) (accepted_tree b (read_all s b)) (keeps_waiting OLD_MODE) i h)).mark
+              ∙ whole_below (given s b) (accepted_tree b (read_earlier s b)) (keeps_waiting OLD_MODE) i h)).mark
               ∙ cleared_at (marks_due s b reference_choice) i
 
       small_in : AreBytes b → Small (figures_of s b)
       small_in bytes =
           let t = text_fits passes in
           let n = occurs_few 0x0A (drawn_due s b reference_choice).text in
-          let k = file_column_limited (render_choice reference_choice) s b (replicate (marks_due s b reference_choice) 0) reference_choice bytes (laid_passes passes) in
+          let marks : List ℕ = replicate (marks_due s b reference_choice) 0 in
+          let k = file_column_limited (render_choice reference_choice) s b marks reference_choice bytes (laid_passes passes) in
           let c = a.count in
           let p = placed_in in
           let g = bounds.numbers in
@@ -113,5 +114,5 @@ module _ (s b : List ℕ) where
 
   pub small : AreBytes b → file_refusal s b reference_choice FILE_OUTPUT ≡ None → Small (figures_of s b)
   small bytes passes =
-      let a = stood s b (laid_passed s b reference_choice file_rows (laid_passes passes)).read in
+      let a = stood s b (laid_passed s b reference_choice file_rows (laid_passes passes)).earlier in
       small_in a.at a.stood passes bytes

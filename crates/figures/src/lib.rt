@@ -1,11 +1,11 @@
 // Request 2: the figures of one file, counted with those before it.
 #![tactic(auto)]
 
-ghost use Rattle.std.specs.Prelude.{◌≡◌, length};
+ghost use Rattle.std.specs.Prelude.{◌≡◌, false, length};
 ghost use Rattle.tallies.specs.Tallies.{Within, tally_refusal};
 ghost use Rattle.refusals.specs.Answers.{answer_by};
 ghost use Rattle.widths.specs.Rules.{SUPPLIED};
-ghost use Rattle.layout_call.specs.Steps.{RuleFits};
+ghost use Rattle.layout_call.specs.Steps.{RuleFits, Reads};
 ghost use Rattle.layout_call.specs.ByFile.{of_file};
 ghost use Rattle.figures.specs.Figures.{FILE_OUTPUT, occurs, count_result, count_answer, counted_answer, Counts};
 
@@ -66,7 +66,8 @@ fn count_figures(t: Tallies, f: Figures) -> Result<Counted, Refused>
 
 // Counts a file that is accepted. The marks past those that its rows need stay cleared, so that all are looked at.
 fn count_accepted(file: Accepted<'_>, t: Tallies) -> Result<Counted, Refused>
-    requires { of_file RuleFits file SUPPLIED }
+    requires rule { of_file RuleFits file SUPPLIED }
+    requires read { of_file Reads file false }
     ensures { counted_answer result ≡ count_answer file.entry.parsed.source.now file.entry.parsed.image.now t }
 {
     let mut store = rows();
@@ -91,5 +92,5 @@ pub fn count_file(source: &[u8], image: &[u8], t: Tallies) -> Result<Counted, Re
     ensures { Counts source.now image.now t result }
 {
     rule_chosen(image, REFERENCE_CHOICE.rule)?;
-    count_accepted(Accepted::check(source, image)?, t)
+    count_accepted(Accepted::check(source, image, false)?, t)
 }

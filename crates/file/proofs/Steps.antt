@@ -7,8 +7,7 @@ use mathlib.Core.List.{List, [], ◌∷◌}
 use Prim.Native.Nat.{ℕ, ◌≤◌, ◌<◌}
 use borrow.Author.Tests.{lt-ltb, le-ltb, not-true, not-false}
 use lib.ListN.{length, take}
-use Rattle.image.specs.Read.{read_all, read_refusal, outcome, Accepts}
-use Rattle.image.specs.declared.Document.{Document}
+use Rattle.image.specs.Read.{read_all, read_refusal, outcome}
 use Rattle.image.proofs.Answers.{read_refusal_lem}
 use Rattle.rows.specs.Rows.{rows}
 use Rattle.refusals.specs.Refusals.{Refusal, unless, first, refuse_if, any}
@@ -82,16 +81,14 @@ module _ (s b : List ℕ) (c : FileChoice) where
       stops_first out r (ap (λ (x : Option Refusal). first (x ∷ read_refusal (read_all s b) ∷ mode_line c ∷ width_legal ∷ [])) (sym e))
 
   -- 1 to 7
-  pub check_refused : rule_line (other_rule b c.rule) c.rule ≡ None → (out : List ℕ) (r : Refused) → outcome (read_all s b) ≡ refused (refusal r) → Formats s b c out (Err r) out
+  pub check_refused : rule_line (other_rule b c.rule) c.rule ≡ None → (out : List ℕ) (r : Refused)
+      → outcome (read_all s b) ≡ refused (refusal r) → Formats s b c out (Err r) out
   check_refused ruled out r e =
       let unread : read_refusal (read_all s b) ≡ Some (refusal r) = sym (read_refusal_lem (read_all s b)) ∙ ap refusal_of e in
       stops_first out r (λ i. first (ruled i ∷ unread i ∷ mode_line c ∷ width_legal ∷ []))
 
   -- ---- then what is chosen, line by line
-  module _ {d : Document} (a : Accepts s b d) (ruled : rule_line (other_rule b c.rule) c.rule ≡ None) where
-    read : read_refusal (read_all s b) ≡ None
-    read = sym (read_refusal_lem (read_all s b)) ∙ ap refusal_of a.answer
-
+  module _ (ruled : rule_line (other_rule b c.rule) c.rule ≡ None) (read : read_refusal (read_all s b) ≡ None) where
     -- 12
     pub mode_refused : states.NEW_MODE < c.mode → first (file_before_rows s b c) ≡ Some (refusal mode_refusal)
     mode_refused h =

@@ -3,10 +3,10 @@
 
 pub mod reply;
 
-ghost use Rattle.std.specs.Prelude.{◌≡◌, ◌*◌, replicate};
+ghost use Rattle.std.specs.Prelude.{◌≡◌, false, ◌*◌, replicate};
 ghost use Rattle.rows.specs.Places.{PLACES};
 ghost use Rattle.cut_rule.specs.States.{render_fresh};
-ghost use Rattle.layout_call.specs.Steps.{RuleFits};
+ghost use Rattle.layout_call.specs.Steps.{RuleFits, Reads};
 ghost use Rattle.layout_call.specs.ByFile.{of_file};
 ghost use Rattle.whole_run.specs.File.{file_rows, file_marks};
 ghost use Rattle.render_call.specs.Calls.{to_state as rendered_state};
@@ -100,7 +100,8 @@ pub fn run_file(
     out: &mut [u8],
     choice: FileChoice,
 ) -> Result<Run, Refused>
-    requires { of_file RuleFits file choice.rule }
+    requires rule { of_file RuleFits file choice.rule }
+    requires read { of_file Reads file false }
     ensures { RunsFile file.entry.parsed.source.now file.entry.parsed.image.now (to_choice choice)
         store.old marks.old out.old result store.new marks.new out.new }
 {
@@ -115,6 +116,7 @@ pub fn run_file(
         close: true,
         mode: choice.mode,
         rule: choice.rule,
+        archive: false,
     };
     let laid = layout_accepted(file, store, LayoutState::default(), all)?;
     // kept: field by field: a `Call` of rendering takes any source and image, as C lends them, and no `Accepted`.
@@ -142,7 +144,8 @@ pub fn run_file(
 
 // A file that is accepted, with rows and marks of its own: the rows of a file that 9 or 10 refuses can't be taken back out of a lent store.
 fn format_accepted(file: Accepted<'_>, out: &mut [u8], choice: FileChoice) -> Result<Text, Refused>
-    requires { of_file RuleFits file choice.rule }
+    requires rule { of_file RuleFits file choice.rule }
+    requires read { of_file Reads file false }
     ensures { Formats file.entry.parsed.source.now file.entry.parsed.image.now (to_choice choice) out.old result out.new }
 {
     let mut store = rows();
@@ -161,7 +164,7 @@ pub fn format_file(
     ensures { Formats source.now image.now (to_choice choice) out.old result out.new }
 {
     rule_chosen(image, choice.rule)?;
-    let file = Accepted::check(source, image)?;
+    let file = Accepted::check(source, image, false)?;
     format_accepted(file, out, choice)
 }
 

@@ -1,6 +1,7 @@
 -- Sources and images with the answers that document 01 gives, read by the definition: antt computes each.
 -- Assumes nothing.
 use mathlib.Core.Path.{◌≡◌, refl}
+use mathlib.Core.Bool.{Bool, true, false}
 use mathlib.Core.List.{List, [], ◌∷◌, ◌++◌}
 use Prim.Native.Nat.{ℕ, zero, suc}
 use lib.ListN.{length}
@@ -10,21 +11,26 @@ use Rattle.text.specs.Newlines.{is_range}
 use Rattle.image.specs.Bytes.{be16, be32}
 use Rattle.image.specs.Grammar.{row_of, row_under_of, kind_fits_of, payload_fits, first_child}
 use Rattle.image.specs.Read.{header, comment_fits, comments_from, comments, shape, opens, children_at}
-use Rattle.image.specs.Read.{skips, record_at, tree_at, read_tree, read_image, source_fits, read_with, read_all, width_bytes, outcome}
+use Rattle.image.specs.Read.{skips, record_at, tree_at, read_tree, read_image, source_fits, read_with, read_by, width_bytes, outcome}
 use Rattle.image.specs.Write.{Plain, Plains, without, plainly, done, ◌next◌, bytes4, written}
 use Rattle.image.specs.declared.Document.{Document}
 
 record Example : Type 0 where
+  archive : Bool
   source : List ℕ
   image : List ℕ
   answer : Answer Document
 
 abbrev reads : List ℕ → List ℕ → Answer Document → Example
-reads s b a = record { source = s; image = b; answer = a }
+reads s b a = record { archive = false; source = s; image = b; answer = a }
+
+-- by the archive entry
+abbrev earlier : List ℕ → List ℕ → Answer Document → Example
+earlier s b a = record { archive = true; source = s; image = b; answer = a }
 
 abbrev answers : List Example → List (Answer Document)
 answers [] = []
-answers (x ∷ xs) = outcome (read_all x.source x.image) ∷ answers xs
+answers (x ∷ xs) = outcome (read_by x.archive x.source x.image) ∷ answers xs
 
 abbrev due : List Example → List (Answer Document)
 due [] = []
@@ -102,6 +108,9 @@ acute = 0xC3 ∷ 0xA9 ∷ []
 abc : List ℕ
 abc = 0x61 ∷ 0x62 ∷ 0x63 ∷ []
 
+no_more : List ℕ
+no_more = written (tree (without next done))
+
 empty : List ℕ
 empty = only (tree (without next done))
 
@@ -121,8 +130,17 @@ more =
     reads abc (listing 1 (pair 2 1) []) (wrong 7 7) ∷
     reads abc (listing 1 (pair 2 4) []) (wrong 7 7) ∷
     reads acute (listing 1 (pair 1 2) []) (wrong 7 7) ∷
-    -- comments may run backwards
-    reads abc (listing 2 (pair 2 3 ++ pair 0 3) (written (tree (without next done)))) (right 2 23) ∷
+    -- 7 at a pair that starts before the end of the one before: reversed, overlapping by a byte; touching is right
+    reads abc (listing 2 (pair 2 3 ++ pair 0 2) no_more) (wrong 7 15) ∷
+    reads abc (listing 2 (pair 0 2 ++ pair 1 3) no_more) (wrong 7 15) ∷
+    reads abc (listing 2 (pair 0 2 ++ pair 2 3) no_more) (right 2 23) ∷
+    -- in the list's order with the other causes: before an empty pair, and behind one
+    reads abc (listing 3 (pair 2 3 ++ pair 0 1 ++ pair 1 1) []) (wrong 7 15) ∷
+    reads abc (listing 3 (pair 2 3 ++ pair 3 3 ++ pair 0 1) []) (wrong 7 15) ∷
+    -- the archive entry reads these, with the other causes of 7
+    earlier abc (listing 2 (pair 2 3 ++ pair 0 3) no_more) (right 2 23) ∷
+    earlier abc (listing 2 (pair 0 2 ++ pair 1 3) no_more) (right 2 23) ∷
+    earlier abc (listing 3 (pair 2 3 ++ pair 0 1 ++ pair 1 1) []) (wrong 7 23) ∷
     -- 4: no tree; a byte after the tree
     reads [] (image (0 ∷ 0 ∷ [])) (wrong 4 7) ∷
     reads [] (listing 0 [] (written (tree (without next done)) ++ 0 ∷ [])) (wrong 4 24) ∷
@@ -157,7 +175,7 @@ more =
     []
 
 examples_right : answers (worked ++ more) ≡ due (worked ++ more)
-unfolding worked shebang more image listing pair only tree declares text name constant literal operator assigns joins imports acute abc empty written
+unfolding worked shebang more image listing pair only tree declares text name constant literal operator assigns joins imports acute abc no_more empty written
     read_with source_fits well_formed prefix run read_image header width_bytes comments comments_from comment_fits
     read_tree tree_at record_at opens shape kind_fits_of payload_fits first_child row_under_of row_of children_at skips
     be16 be32 is_range boundary within sequence followed row_in

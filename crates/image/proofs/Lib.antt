@@ -17,3 +17,4 @@ pub mod Examples
 pub mod Numbers
 pub mod Unpacked
 pub mod OneVersion
+pub mod Earlier

@@ -98,4 +98,4 @@ pub numbers_with : (may : ℕ → Bool) (o : Bool) (s b : List ℕ) (n p : ℕ) 
 numbers_with may o s b n p e = rw e at (all_known may o s b)
 
 pub read_numbers : ReadNumbers
-read_numbers = numbers_with any_version false
+read_numbers archive = numbers_with any_version (not archive)

@@ -3,8 +3,8 @@
 use mathlib.Core.Path.{◌≡◌, refl, sym, ap, ◌∙◌}
 use mathlib.Core.Bool.{Bool, true, false, cond, not, ◌&&◌}
 use mathlib.Core.Logic.{◌⊎◌, inl, inr}
-use mathlib.Core.List.{List, []}
-use Prim.Native.Nat.{ℕ, ◌≤◌}
+use mathlib.Core.List.{List}
+use Prim.Native.Nat.{ℕ}
 use native.Mathlib.Omega.{arith}
 use lib.Dec.{eqb}
 use lib.ListN.{length}
@@ -17,9 +17,9 @@ any_true : (v : ℕ) → (v ≡ 1) ⊎ (v ≡ 2) → any_version v ≡ true
 any_true v (inl e) = rw e refl
 any_true v (inr e) = rw e refl
 
-module _ (n : ℕ) (s b : List ℕ) where
-  abbrev read_by : Bool → Read Image
-  read_by fits = cond (not fits) (bad 3 0) (bind (comments false s b) (λ done at. read_tree s b (width_bytes b) at))
+module _ (n : ℕ) (o : Bool) (s b : List ℕ) where
+  abbrev by_header : Bool → Read Image
+  by_header fits = cond (not fits) (bad 3 0) (bind (comments o s b) (λ done at. read_tree s b (width_bytes b) at))
 
   fits_same : version b ≡ n → header_fits any_version b ≡ header_fits (eqb n) b
   fits_same e = go (header b) refl
@@ -30,13 +30,13 @@ module _ (n : ℕ) (s b : List ℕ) where
           let known = (headed (λ v. true) b (ap (λ (x : Bool). x && true) h)).known in
           any_true (version b) known ∙ sym (eq-eqb n (version b) (sym e))
 
-  pub one_read : version b ≡ n → read_image any_version false s b ≡ read_image (eqb n) false s b
+  pub one_read : version b ≡ n → read_image any_version o s b ≡ read_image (eqb n) o s b
   unfolding read_image
-  one_read e = ap read_by (fits_same e)
+  one_read e = ap by_header (fits_same e)
 
-  pub another_refused : (length b ≡ 0) ⊎ (version b ≡ n → ⊥) → read_image (eqb n) false s b ≡ bad 3 0
+  pub another_refused : (length b ≡ 0) ⊎ (version b ≡ n → ⊥) → read_image (eqb n) o s b ≡ bad 3 0
   unfolding read_image
-  another_refused h = ap read_by (fits h)
+  another_refused h = ap by_header (fits h)
     where
       fits : (length b ≡ 0) ⊎ (version b ≡ n → ⊥) → header_fits (eqb n) b ≡ false
       fits (inl e) = go (header_fits (eqb n) b) refl

@@ -188,9 +188,22 @@ read_with may ordered s b =
 abbrev pub read_version : ℕ → Bool → List ℕ → List ℕ → Read Image
 read_version n = read_with (eqb n)
 
--- Comments may overlap and run backwards.
+-- "a comment must start at or after the end of the one before" (document 02, 10)
 abbrev pub read_all : List ℕ → List ℕ → Read Image
-read_all = read_with any_version false
+read_all = read_with any_version true
+
+-- "the earlier rule": comments may overlap and run backwards
+abbrev pub read_earlier : List ℕ → List ℕ → Read Image
+read_earlier = read_with any_version false
+
+-- "For images already archived, an archive entry reads by the earlier rule": by whether it is that entry
+abbrev pub read_by : Bool → List ℕ → List ℕ → Read Image
+read_by archive = read_with any_version (not archive)
+
+-- what the strict rule accepts, the earlier one accepts with the same tree
+abbrev pub StrictIsEarlier : Type 0
+StrictIsEarlier =
+    (may : ℕ → Bool) (s b : List ℕ) (i : Image) (end : ℕ) → read_with may true s b ≡ got i end → read_with may false s b ≡ got i end
 
 -- ---- the answer of `check`
 -- the number of comments, and the tree's offset
@@ -207,9 +220,9 @@ abbrev pub read_refusal : {A : Type 0} → Read A → Option Refusal
 read_refusal (got a end) = None
 read_refusal (bad n p) = Some (record { number = n; place = p })
 
--- source and image are accepted, with so many comments and the tree there
+-- source and image are accepted by the earlier rule at least, with so many comments and the tree there
 pub record Accepts (s b : List ℕ) (d : Document) : Type 0 where
-  pub answer : outcome (read_all s b) ≡ accepted d
+  pub answer : outcome (read_earlier s b) ≡ accepted d
 
 -- what `check` promises of its answer
 abbrev pub Checks : List ℕ → List ℕ → Result Document Refused → Type 0
@@ -220,7 +233,7 @@ abbrev pub reader_numbers : List ℕ
 reader_numbers = 1 ∷ 2 ∷ 3 ∷ 7 ∷ 4 ∷ 5 ∷ 6 ∷ []
 
 abbrev pub ReadNumbers : Type 0
-ReadNumbers = (s b : List ℕ) (n p : ℕ) → read_all s b ≡ bad n p → is_one_of n reader_numbers ≡ true
+ReadNumbers = (archive : Bool) (s b : List ℕ) (n p : ℕ) → read_by archive s b ≡ bad n p → is_one_of n reader_numbers ≡ true
 
 -- ---- the code's answers to a part
 -- where the reading of a part goes on

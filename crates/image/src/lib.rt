@@ -11,8 +11,8 @@ mod records;
 pub mod sizes;
 pub mod width;
 
-ghost use Rattle.std.specs.Prelude.{◌≡◌, false, ◌≤◌, length};
-ghost use Rattle.image.specs.Read.{any_version, width_bytes, source_fits, header_fits, read_tree, read_image, read_version, outcome, Checks};
+ghost use Rattle.std.specs.Prelude.{◌≡◌, ◌≤◌, length};
+ghost use Rattle.image.specs.Read.{any_version, width_bytes, source_fits, header_fits, read_tree, read_image, read_version, read_by, outcome, Checks};
 ghost use Rattle.refusals.specs.Reasons.{answer_of};
 
 use bytes::{num16, num32};
@@ -72,32 +72,44 @@ fn read_tree(source: &[u8], image: &[u8], at: usize) -> Result<Document, Refused
 }
 
 #[tactic(auto, unfolding(crate::specs::Read::read_image))]
-fn read_image(source: &[u8], image: &[u8]) -> Result<Document, Refused>
-    ensures { answer_of (λ d. d) result ≡ outcome (read_image any_version false source.now image.now) }
+fn read_image(source: &[u8], image: &[u8], ordered: bool) -> Result<Document, Refused>
+    ensures { answer_of (λ d. d) result ≡ outcome (read_image any_version ordered source.now image.now) }
 {
     if !header_fits(image) {
         return Err(Reason::Header.at(0));
     }
-    let at = read_comments(source, image)?;
+    let at = read_comments(source, image, ordered)?;
     read_tree(source, image, at)
 }
 
-// Accepts a source and an image, or refuses them.
+// Accepts a source and an image, or refuses them; for an archive, by the earlier rule, whose comments may run backwards.
 #[tactic(auto, unfolding(crate::specs::Read::read_with))]
-pub fn check(source: &[u8], image: &[u8]) -> Result<Document, Refused>
-    ensures { Checks source.now image.now result }
+pub fn check_by(source: &[u8], image: &[u8], archive: bool) -> Result<Document, Refused>
+    ensures { answer_of (λ d. d) result ≡ outcome (read_by archive source.now image.now) }
 {
     if !source_fits(source) {
         return Err(Reason::SourceTooLong.at(0));
     }
     text::utf8::check(source)?;
-    read_image(source, image)
+    read_image(source, image, !archive)
 }
 
-// Accepts a source and an image of one version, or refuses them: by 3 where the image is of another.
+// Accepts a source and an image, or refuses them.
+pub fn check(source: &[u8], image: &[u8]) -> Result<Document, Refused>
+    ensures { Checks source.now image.now result }
+{
+    check_by(source, image, false)
+}
+
+// Accepts a source and an image of one version, its comments in order or not, or refuses them: by 3 where the image is of another version.
 #[tactic(auto, unfolding(crate::specs::Read::read_with))]
-pub fn check_version(source: &[u8], image: &[u8], version: u8) -> Result<Document, Refused>
-    ensures { answer_of (λ d. d) result ≡ outcome (read_version version false source.now image.now) }
+pub fn check_version(
+    source: &[u8],
+    image: &[u8],
+    version: u8,
+    ordered: bool,
+) -> Result<Document, Refused>
+    ensures { answer_of (λ d. d) result ≡ outcome (read_version version ordered source.now image.now) }
 {
     if !source_fits(source) {
         return Err(Reason::SourceTooLong.at(0));
@@ -106,5 +118,5 @@ pub fn check_version(source: &[u8], image: &[u8], version: u8) -> Result<Documen
     if image.is_empty() || image[0] != version {
         return Err(Reason::Header.at(0));
     }
-    read_image(source, image)
+    read_image(source, image, ordered)
 }

@@ -30,7 +30,8 @@ impl Reader<'_> {
     #[tactic(auto, unfolding(crate::specs::Read::shape))]
     fn shaped_kind(&self, due: Due) -> Option<Kind>
         ensures { result
-            ≡ cond (shape self.now.image.now (width_bytes self.now.image.now) (due_number due) self.now.at self.now.end) (kind_of (kind_at self.now.image.now self.now.at)) None }
+            ≡ cond (shape self.now.image.now (width_bytes self.now.image.now) (due_number due) self.now.at self.now.end)
+            (kind_of (kind_at self.now.image.now self.now.at)) None }
     {
         if self.end - self.at < LENGTH {
             return None;

@@ -11,9 +11,9 @@ use lib.Seq.{sets, length-sets}
 use lib.Dec.{ltb, eqb}
 use borrow.Author.Tests.{le-ltb, ltb-false, not-true, not-false}
 use Rattle.rows.specs.Places.{PLACES}
-use Rattle.image.specs.Read.{read_all, read_refusal, Accepts}
+use Rattle.image.specs.Read.{read_all, read_earlier, read_refusal, Accepts}
 use Rattle.image.specs.declared.Document.{Document}
-use Rattle.image.proofs.Answers.{read_refusal_lem}
+use Rattle.image.proofs.Earlier.{refusal_by}
 use Rattle.rows.specs.Node.{Nodes}
 use Rattle.rows.specs.Rows.{sizes, rows}
 use Rattle.rows.proofs.Sizes.{length_rows}
@@ -25,7 +25,7 @@ use Rattle.comments.specs.Listed.{given}
 use Rattle.layout_facts.proofs.InOrder.{places_call}
 use Rattle.cut_rule.specs.Rules as cut
 use Rattle.refusals.specs.Refusals.{Refusal, unless, any, first, refuse_if}
-use Rattle.refusals.specs.Answers.{refused, accepted, answer_by, refusal_of}
+use Rattle.refusals.specs.Answers.{refused, accepted, answer_by}
 use Rattle.refusals.proofs.Groups.{refuses_left, left_to}
 use Rattle.cut_rule.specs.Run.{write_at, CallResult, laid_out}
 use Rattle.cut_rule.specs.States as states
@@ -43,7 +43,7 @@ use Rattle.row_widths.specs.Passes.{pass, row_summed}
 use Rattle.row_widths.proofs.Summing.{summed_rows}
 use Rattle.layout_call.specs.Calls.{to_state, to_args, laying_answer}
 use Rattle.layout_call.specs.Whole.{LayoutCalled}
-use Rattle.layout_call.specs.Steps.{Goes, StateFits, Roomy, from_of, missing, call_act}
+use Rattle.layout_call.specs.Steps.{RuleFits, Reads, Goes, StateFits, Roomy, from_of, missing, call_act}
 use Rattle.layout_call.specs.declared.LayoutState.{LayoutState}
 use Rattle.layout_call.specs.declared.LayoutArgs.{LayoutArgs}
 use Rattle.layout_call.specs.declared.Laid as declared
@@ -70,13 +70,18 @@ module _ (s b : List ℕ) (state : LayoutState) (q : LayoutArgs) (store : List �
   abbrev needed : ℕ
   needed = rows_needed (parts_of s b) (to_args q) (to_state state)
 
-  -- the lines before 8, and 8 where these let pass
-  before_from : (o : Option Refusal) → rule_line (other_rule b q.rule) q.rule ≡ o → first before ≡ first (o ∷ read_refusal (read_all s b) ∷ refuse_if unfit 12 0 ∷ [])
-  before_from o e = ap (λ (x : Option Refusal). first (x ∷ read_refusal (read_all s b) ∷ refuse_if unfit 12 0 ∷ [])) e
+  -- what the entry's reading refuses
+  abbrev unread : Option Refusal
+  unread = cond q.archive (read_refusal (read_earlier s b)) (read_refusal (read_all s b))
 
-  before_by : (o : Option Refusal) (t : Bool) → rule_line (other_rule b q.rule) q.rule ≡ None → read_refusal (read_all s b) ≡ o → unfit ≡ t
-      → first before ≡ first (o ∷ refuse_if t 12 0 ∷ [])
-  before_by o t g e f = before_from None g ∙ ap₂ (λ (x : Option Refusal) (y : Bool). first (x ∷ refuse_if y 12 0 ∷ [])) e f
+  -- the lines before 8, and 8 where these let pass
+  before_from : (o : Option Refusal) → rule_line (other_rule b q.rule) q.rule ≡ o → first before ≡ first (o ∷ unread ∷ refuse_if unfit 12 0 ∷ [])
+  before_from o e = ap (λ (x : Option Refusal). first (x ∷ unread ∷ refuse_if unfit 12 0 ∷ [])) e
+
+  before_by : (t : Bool) → RuleFits s b q.rule → Reads s b q.archive → unfit ≡ t → first before ≡ first (refuse_if t 12 0 ∷ [])
+  before_by t g e f =
+      before_from None g
+      ∙ ap₂ (λ (x : Option Refusal) (y : Bool). first (x ∷ refuse_if y 12 0 ∷ [])) (sym (refusal_by q.archive s b) ∙ e) f
 
   rows_by : (u : Bool) (n : ℕ) → first before ≡ None → needed ≡ n → ltb (rows_in store) n ≡ u → table ≡ first (refuse_if u 8 n ∷ [])
   rows_by u n e g h =
@@ -98,24 +103,21 @@ module _ (s b : List ℕ) (state : LayoutState) (q : LayoutArgs) (store : List �
     fits_told x declarations e f = rw (sym e, comments_count a) f
 
     -- so, by what it answers, 12 refuses the state or lets it pass
-    pub fits_unless : rule_line (other_rule b q.rule) q.rule ≡ None → (x : Bool) (declarations : ℕ) → declarations ≡ length (declared s b)
+    pub fits_unless : RuleFits s b q.rule → Reads s b q.archive → (x : Bool) (declarations : ℕ) → declarations ≡ length (declared s b)
         → x ≡ not (any (layout_tests_in declarations d.comments (length s) (rows_in store) (to_args q) (to_state state))) → x ≡ true
         → StateFits s b state q store
-    fits_unless g x declarations e f h = record { chosen = g; tested = not-true unfit (sym (fits_told x declarations e f) ∙ h) }
-
-    reads : read_refusal (read_all s b) ≡ None
-    reads = sym (read_refusal_lem (read_all s b)) ∙ ap refusal_of a.answer
+    fits_unless g r x declarations e f h = record { chosen = g; read = r; tested = not-true unfit (sym (fits_told x declarations e f) ∙ h) }
 
     -- 12
-    pub ends_unfit : rule_line (other_rule b q.rule) q.rule ≡ None → (x : Bool) (declarations : ℕ) → declarations ≡ length (declared s b)
+    pub ends_unfit : RuleFits s b q.rule → Reads s b q.archive → (x : Bool) (declarations : ℕ) → declarations ≡ length (declared s b)
         → x ≡ not (any (layout_tests_in declarations d.comments (length s) (rows_in store) (to_args q) (to_state state))) → x ≡ false
         → LayoutCalled s b state q store (Err (record { reason = reason.State; place = 0 })) store
-    ends_unfit g x declarations e f h =
-        refused_by _ _ (refuses_left _ before behind (before_by None true g reads (not-false unfit (sym (fits_told x declarations e f) ∙ h)))) refl
+    ends_unfit g r x declarations e f h =
+        refused_by _ _ (refuses_left _ before behind (before_by true g r (not-false unfit (sym (fits_told x declarations e f) ∙ h)))) refl
 
     module _ (fits : StateFits s b state q store) where
       passes : first before ≡ None
-      passes = before_by None false fits.chosen reads fits.tested
+      passes = before_by false fits.chosen fits.read fits.tested
 
       told : LayoutFits (length (declared s b)) (length (comments_of b)) (length s) (rows_in store) (to_args q) (to_state state)
       told = layout_fits (length (declared s b)) (length (comments_of b)) (length s) (rows_in store) (to_args q) (to_state state) fits.tested
@@ -145,7 +147,7 @@ module _ (s b : List ℕ) (state : LayoutState) (q : LayoutArgs) (store : List �
       from = from_of state
 
       due : call_piece (parts_of s b) (to_state state) (to_args q) ≡ act_piece q.rule s b act (to_state state).cursor
-      due = call_piece_lem (read_all s b) s b (to_state state) (to_args q) ahead within
+      due = call_piece_lem (read_earlier s b) s b (to_state state) (to_args q) ahead within
 
       pub needed_is : needed ≡ state.row + sizes (act (st from)).nodes
       needed_is = ap (λ (p : Piece). p.cursor.row) due
@@ -215,7 +217,8 @@ module _ (s b : List ℕ) (state : LayoutState) (q : LayoutArgs) (store : List �
             (let l = length_rows (laid_nodes q.rule s b ns) state.row in omega (arith, laid_size q.rule s b ns, room)))
             ∙ ap (λ (p : Piece). write_at (PLACES * state.row) p.rows store) (sym due)
 
-        pub ends_laid : (store3 : List ℕ) → store3 ≡ sums → (t : LayoutState) (left : ℕ) → t.begun ≡ true → t.closed ≡ q.close → t.declaration ≡ q.stop → t.row ≡ e.row
+        pub ends_laid : (store3 : List ℕ) → store3 ≡ sums → (t : LayoutState) (left : ℕ)
+            → t.begun ≡ true → t.closed ≡ q.close → t.declaration ≡ q.stop → t.row ≡ e.row
             → t.number ≡ e.number
             → t.placed ≡ e.placed
             → t.position ≡ e.pos

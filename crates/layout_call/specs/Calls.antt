@@ -22,9 +22,9 @@ to_state s = record {
   rule = s.rule;
 }
 
--- "A layout call names the declaration to stop before and whether to close", the mode, and the rule
+-- "A layout call names the declaration to stop before and whether to close", the mode, the rule, and whether it is the archive entry's
 abbrev pub to_args : LayoutArgs → cut.LayoutArgs states.LayoutChoice
-to_args q = record { stop = q.stop; close = q.close; choice = record { mode = q.mode; rule = q.rule } }
+to_args q = record { stop = q.stop; close = q.close; choice = record { mode = q.mode; rule = q.rule }; archive = q.archive }
 
 -- A call's answer: "the new state with the number of comments left"; "Number and place are all that comes back."
 abbrev pub laying_answer : (s b : List ℕ) → Result Laid Refused → Answer (CallResult (rules_of s b))

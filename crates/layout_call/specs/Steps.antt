@@ -1,6 +1,6 @@
 -- What the functions below the layout call go by.
-use Rattle.std.specs.Prelude.{◌≡◌, false, not, cond, List, ℕ, ◌+◌, ◌-◌, ◌≤◌, eqb, ltb, length, take, drop, Option, Some, None}
-use Rattle.image.specs.Read.{stop_at}
+use Rattle.std.specs.Prelude.{◌≡◌, Bool, false, not, cond, List, ℕ, ◌+◌, ◌-◌, ◌≤◌, eqb, ltb, length, take, drop, Option, Some, None}
+use Rattle.image.specs.Read.{stop_at, read_by, read_refusal}
 use Rattle.image.specs.declared.Document.{Document}
 use Rattle.rows.specs.Limits.{MAX_ROWS, MAX_NUMBER}
 use Rattle.tree.specs.Walk.{walked}
@@ -50,9 +50,14 @@ missing rows needed = cond (ltb rows needed) (Some needed) None
 abbrev pub RuleFits : List ℕ → List ℕ → ℕ → Type 0
 RuleFits s b rule = rule_line (other_rule b rule) rule ≡ None
 
--- 20 and 12 do not refuse
+-- 1 to 7 do not refuse, by the rule that the call's entry reads by
+abbrev pub Reads : List ℕ → List ℕ → Bool → Type 0
+Reads s b archive = read_refusal (read_by archive s b) ≡ None
+
+-- 20, 1 to 7 and 12 do not refuse
 pub record StateFits (s b : List ℕ) (state : LayoutState) (q : LayoutArgs) (store : List ℕ) : Type 0 where
   pub chosen : RuleFits s b q.rule
+  pub read : Reads s b q.archive
   pub tested : any (layout_tests (parts_of s b) (to_args q) (to_state state) store) ≡ false
 
 -- 8 does not refuse

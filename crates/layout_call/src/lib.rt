@@ -10,7 +10,7 @@ pub mod modes;
 mod room;
 pub mod steps;
 
-ghost use Rattle.layout_call.specs.Steps.{RuleFits};
+ghost use Rattle.layout_call.specs.Steps.{RuleFits, Reads};
 ghost use Rattle.layout_call.specs.Whole.{LayoutCalled};
 ghost use Rattle.layout_call.specs.ByFile.{of_file};
 
@@ -37,13 +37,15 @@ pub struct LayoutState {
     pub rule: usize,
 }
 
-// The declaration to stop before, whether to close, the mode (modes.rt), and the rule of width.
+// The declaration to stop before, whether to close, the mode (modes.rt), the rule of width, and whether the call is the archive entry's, which
+// reads comments that run backwards.
 #[derive(Clone, Copy, Debug, PartialEq, Eq)]
 pub struct LayoutArgs {
     pub stop: usize,
     pub close: bool,
     pub mode: usize,
     pub rule: usize,
+    pub archive: bool,
 }
 
 /// What an accepted call gives: the new state, and the comments left.
@@ -53,14 +55,15 @@ pub struct Laid {
     pub left: usize,
 }
 
-/// A call on a source and an image that are accepted, by a rule that 20 does not refuse.
+/// A call on a source and an image that its entry accepts, by a rule that 20 does not refuse.
 pub fn layout_accepted(
     file: Accepted<'_>,
     store: &mut [u32],
     state: LayoutState,
     args: LayoutArgs,
 ) -> Result<Laid, Refused>
-    requires { of_file RuleFits file args.rule }
+    requires rule { of_file RuleFits file args.rule }
+    requires read { of_file Reads file args.archive }
     ensures { of_file LayoutCalled file.entry state args store.old result store.new }
 {
     let within = Within {
@@ -90,6 +93,6 @@ pub fn layout_call(
     ensures { LayoutCalled source.now image.now state args store.old result store.new }
 {
     rule_chosen(image, args.rule)?;
-    let file = Accepted::check(source, image)?;
+    let file = Accepted::check(source, image, args.archive)?;
     layout_accepted(file, store, state, args)
 }

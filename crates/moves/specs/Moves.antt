@@ -58,7 +58,7 @@ abbrev pub moved : (Contents → List ℕ) → List ℕ → Read Image → List 
 moved f b (got i end) = f (contents_of b i)
 moved f b (bad n p) = []
 
--- "A move from the wrong version refuses with 3"; comments by the earlier rule
+-- "A move from the wrong version refuses with 3"; comments "by the earlier rule", and "so do the moves of version 2"
 abbrev pub read_forward : List ℕ → List ℕ → Read Image
 read_forward = read_version 1 false
 

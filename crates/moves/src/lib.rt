@@ -21,7 +21,7 @@ use refusals::{Reason, Refused};
 fn check_move(way: Way, source: &[u8], image: &[u8]) -> Result<usize, Refused>
     ensures { answer_of (λ n. n) result ≡ tree_due way source.now image.now }
 {
-    let doc = image::check_version(source, image, way.version_from())?;
+    let doc = image::check_version(source, image, way.version_from(), false)?;
     match find_fault(way, image, doc.tree) {
         Some(at) => Err(Reason::StoredWidth.at(at)),
         None => Ok(doc.tree),

@@ -148,7 +148,9 @@ module _ (source image : List ℕ) (state : RenderState) (args : RenderArgs) (st
       dry =
           subst₂
           (λ (v : View) (m : List ℕ).
-          Ended 0 (render_nodes (rule_page args.width.0 args.rule source image) (nodes_at v state.row args.stop) true (fresh_renderer p.pen m)) [] marks3 out3 q)
+          Ended 0
+          (render_nodes (rule_page args.width.0 args.rule source image) (nodes_at v state.row args.stop) true (fresh_renderer p.pen m))
+          [] marks3 out3 q)
           same_view
           (ap (λ (h : Held). h.marks) e)
           r

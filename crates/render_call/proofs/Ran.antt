@@ -51,7 +51,8 @@ module _ (source image : List ℕ) (state : RenderState) (args : RenderArgs) (st
 
   -- the rows rendered, with any marks behind those in use
   abbrev rendered : List ℕ → Renderer
-  rendered m = render_nodes (rule_page args.width.0 args.rule source image) (nodes_at (view_of store) state.row args.stop) true (renderer_of (to_state state).pen m)
+  rendered m =
+      render_nodes (rule_page args.width.0 args.rule source image) (nodes_at (view_of store) state.row args.stop) true (renderer_of (to_state state).pen m)
 
   past_same : (past : List ℕ) → rendered (marks_in_use ++ past) ≡ ext [] past 0 (rendered marks_in_use)
   past_same past =
@@ -69,7 +70,8 @@ module _ (source image : List ℕ) (state : RenderState) (args : RenderArgs) (st
   marks_onto =
       ap (λ (n : ℕ). gives.marks ++ drop n marks)
       (sym
-      (renders_length (rule_page args.width.0 args.rule source image) (nodes_at (view_of store) state.row args.stop) true (renderer_of (to_state state).pen marks_in_use)))
+      (renders_length (rule_page args.width.0 args.rule source image) (nodes_at (view_of store) state.row args.stop) true
+      (renderer_of (to_state state).pen marks_in_use)))
 
   -- the renderer that the state's pen starts as
   pub started : (p : Writing) (m : List ℕ) → p.pen ≡ state.pen → fresh_renderer p.pen m ≡ renderer_of (to_state state).pen m

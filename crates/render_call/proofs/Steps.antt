@@ -81,7 +81,8 @@ module _ (source image : List ℕ) (state : RenderState) (args : RenderArgs) (st
         (may.ahead, omega arith)
 
     pub dry_ends : (p q : Writing) → Takes state p → ((k : ℕ) → get_or marks k 0 < 256) → (marks3 out3 rows4 marks4 : List ℕ)
-        → Ended 0 (render_nodes (rule_page args.width.0 args.rule source image) (nodes_at (view_of rows2) state.row args.stop) true (fresh_renderer p.pen marks2))
+        → Ended 0 (render_nodes (rule_page args.width.0 args.rule source image) (nodes_at (view_of rows2) state.row args.stop) true
+        (fresh_renderer p.pen marks2))
         [] marks3 out3 q
         → held rows4 marks4 ≡ put_back (args.stop - state.row) (held rows2 marks3) state.row
         → Counted source image state args store marks q.at rows4 marks4
@@ -147,7 +148,8 @@ module _ (source image : List ℕ) (state : RenderState) (args : RenderArgs)
       let run =
       subst
       (λ (m : List ℕ).
-      Ended (length out) (render_nodes (rule_page args.width.0 args.rule source image) (nodes_at (view_of store) state.row args.stop) true (fresh_renderer p.pen m))
+      Ended (length out) (render_nodes (rule_page args.width.0 args.rule source image) (nodes_at (view_of store) state.row args.stop) true
+      (fresh_renderer p.pen m))
       out marks3 out3 q)
       over
       r

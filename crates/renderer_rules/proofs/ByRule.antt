@@ -31,7 +31,8 @@ use Rattle.renderer_rules.specs.Check.{text_whole, whole_at, places_fit_by, wron
 use Rattle.renderer_rules.proofs.Checked.{no_wrong}
 
 -- ---- supplied widths
-pub supplied_same : (source image store : List ℕ) (from stop : ℕ) → wrong_place_by SUPPLIED source image store from stop ≡ wrong_place source image store from stop
+pub supplied_same : (source image store : List ℕ) (from stop : ℕ)
+    → wrong_place_by SUPPLIED source image store from stop ≡ wrong_place source image store from stop
 unfolding wrong_place_by wrong_place places_fit_by
 supplied_same source image store from stop = refl
 

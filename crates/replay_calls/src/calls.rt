@@ -11,8 +11,17 @@ use stored_answers::numbers::{Reader, past};
 use stored_answers::parts::Parts;
 use stored_answers::report::{count, number_of};
 
-// How many answers a call can have: accepted, or a number up to 20. Those of rendering calls are counted behind those of layout calls.
+// How many answers a call can have: accepted, or a number up to 20. Those of rendering calls are counted behind those of layout calls, and those of
+// layout calls by the archive entry behind both.
 pub(crate) const ANSWERS: usize = 21;
+
+// How many answers are counted before those of a layout call by the archive entry.
+pub(crate) const BEFORE_ARCHIVE: usize = 42;
+
+// What is stored of a call's entry, but for layout calls.
+const RENDERING: usize = 1;
+
+const ARCHIVE: usize = 2;
 
 // The states that the calls so far left, the bytes that they wrote, and the first difference.
 #[derive(Clone, Copy)]
@@ -84,8 +93,9 @@ impl World<'_, '_, '_, '_, '_> {
         let state = self.run.layout;
         let store = &mut *self.store;
         let answer = layout_call(parts.source, parts.image, store, state, args);
+        let before = if args.archive { BEFORE_ARCHIVE } else { 0 };
         let counts = &mut *self.counts;
-        count(counts, number_of(answer));
+        count(counts, past(before, number_of(answer)));
         if let Ok(laid) = answer {
             self.run.layout = laid.state;
         }
@@ -128,30 +138,31 @@ impl World<'_, '_, '_, '_, '_> {
         )
     }
 
-    // Runs the next stored call: which it is, where it stops, whether it closes or its output's size, its mode or width, its rule, and its answer.
+    // Runs the next stored call: at which entry, where it stops, whether it closes or its output's size, its mode or width, its rule, and its answer.
     fn call(&mut self, answers: &mut Reader) -> Result<(), Difference> {
         let kind = answers.byte();
         let stop = answers.long();
         let argument = answers.long();
         let choice = answers.long();
         let rule = answers.eight();
-        if kind == 0 {
-            let args = LayoutArgs {
+        if kind == RENDERING {
+            let args = RenderArgs {
                 stop,
-                close: argument != 0,
-                mode: choice,
+                width: Columns(choice),
                 rule,
             };
-            let stored = read_stored(answers, |answers| layout_state(answers));
-            return self.lay(args, stored);
+            let stored = read_stored(answers, |answers| render_state(answers));
+            return self.render(args, argument, stored);
         }
-        let args = RenderArgs {
+        let args = LayoutArgs {
             stop,
-            width: Columns(choice),
+            close: argument != 0,
+            mode: choice,
             rule,
+            archive: kind == ARCHIVE,
         };
-        let stored = read_stored(answers, |answers| render_state(answers));
-        self.render(args, argument, stored)
+        let stored = read_stored(answers, |answers| layout_state(answers));
+        self.lay(args, stored)
     }
 
     // Runs the stored calls, of which the number comes first.

@@ -1,5 +1,5 @@
 // The groups of stored answers, each with the buffers that its replay needs.
-use crate::calls::ANSWERS;
+use crate::calls::{ANSWERS, BEFORE_ARCHIVE};
 use crate::cases::{self, replay_case};
 use crate::image_moves::{self, replay_move};
 use crate::step_lists::{self, replay_list};
@@ -11,7 +11,7 @@ pub(crate) fn calls(rt: &impl Print, answers: &[u8]) {
     let mut store: [u32; 16384] = filled(0);
     let mut marks: [u8; 4096] = filled(0);
     let mut text: [u8; 1114112] = filled(0);
-    let mut counts = [0usize; 42];
+    let mut counts = [0usize; 63];
     let mut buffers = cases::Buffers {
         store: &mut store,
         marks: &mut marks,
@@ -20,7 +20,8 @@ pub(crate) fn calls(rt: &impl Print, answers: &[u8]) {
     };
     let c = replay(rt, answers, |answers| replay_case(answers, &mut buffers));
     show_counts(rt, "layout calls", &counts[..ANSWERS]);
-    show_counts(rt, "rendering calls", &counts[ANSWERS..]);
+    show_counts(rt, "rendering calls", &counts[ANSWERS..BEFORE_ARCHIVE]);
+    show_counts(rt, "archive layout calls", &counts[BEFORE_ARCHIVE..]);
     show_end(rt, "lists", c);
 }
 

@@ -11,14 +11,17 @@ pub(crate) fn frames(rt: &impl Print, answers: &[u8]) {
     let mut marks = marks();
     let mut out: [u8; 65536] = filled(0);
     let mut counts = [0usize; 21];
+    let mut archived = [0usize; 21];
     let mut buffers = Buffers {
         store: &mut store,
         marks: &mut marks,
         out: &mut out,
         counts: &mut counts,
+        archived: &mut archived,
     };
     let c = replay(rt, answers, |answers| replay_frame(answers, &mut buffers));
     show_counts(rt, "frames", &counts);
+    show_counts(rt, "archived frames", &archived);
     show_end(rt, "frames", c);
 }
 

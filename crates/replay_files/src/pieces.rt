@@ -1,4 +1,5 @@
-// A frame by declarations: a layout call to each stop, a closing one, and a rendering call.
+// A frame by declarations: a layout call to each stop, a closing one, and a rendering call. The layout calls of a frame whose comments are refused
+// are all made at the archive entry; those of another at both entries by turns.
 use crate::frames::Buffers;
 use crate::stored::{Accepted, Stored};
 use file::{REFERENCE_WIDTH, Text, render_fresh};
@@ -46,20 +47,27 @@ fn is_at(s: LayoutState, stop: usize, closed: bool) -> bool {
     s.begun && s.closed == closed && s.declaration == stop
 }
 
-// A layout call.
-fn lay(
-    parts: Parts,
-    store: &mut [u32],
-    state: LayoutState,
-    stop: usize,
-    close: bool,
-) -> Result<Laid, Difference> {
-    let args = LayoutArgs {
+// What a layout call is told.
+fn args_of(stop: usize, close: bool, archive: bool) -> LayoutArgs {
+    LayoutArgs {
         stop,
         close,
         mode: OLD_MODE,
         rule: SUPPLIED,
-    };
+        archive,
+    }
+}
+
+// A layout call, of a frame that is archived or not.
+fn lay(
+    parts: Parts,
+    store: &mut [u32],
+    state: LayoutState,
+    args: LayoutArgs,
+    archived: bool,
+) -> Result<Laid, Difference> {
+    let archive = archived || args.stop % 2 == 1;
+    let args = LayoutArgs { archive, ..args };
     match layout_call(parts.source, parts.image, store, state, args) {
         Ok(laid) => Ok(laid),
         Err(_) => Err(Difference::Number),
@@ -67,17 +75,30 @@ fn lay(
 }
 
 // All layout calls.
-fn lay_out(accepted: &Accepted, parts: Parts, store: &mut [u32]) -> Result<Laid, Difference> {
+fn lay_out(
+    accepted: &Accepted,
+    parts: Parts,
+    store: &mut [u32],
+    archived: bool,
+) -> Result<Laid, Difference> {
     let mut stops = accepted.stops;
     let mut state = LayoutState::default();
     for stop in 0..past(accepted.declarations, 1) {
-        state = lay(parts, store, state, stop, false)?.state;
+        state = lay(
+            parts,
+            store,
+            state,
+            args_of(stop, false, archived),
+            archived,
+        )?
+        .state;
         unless(
             is_at(state, stop, false) && is_stop(&mut stops, state),
             Difference::State,
         )?;
     }
-    let laid = lay(parts, store, state, accepted.declarations, true)?;
+    let last = args_of(accepted.declarations, true, archived);
+    let laid = lay(parts, store, state, last, archived)?;
     unless(
         is_at(laid.state, accepted.declarations, true),
         Difference::State,
@@ -86,11 +107,16 @@ fn lay_out(accepted: &Accepted, parts: Parts, store: &mut [u32]) -> Result<Laid,
 }
 
 // A frame that is accepted.
-fn by_declarations(accepted: &Accepted, parts: Parts, b: &mut Buffers) -> Result<(), Difference> {
+fn by_declarations(
+    accepted: &Accepted,
+    parts: Parts,
+    b: &mut Buffers,
+    archived: bool,
+) -> Result<(), Difference> {
     let store = &mut *b.store;
     let marks = &mut *b.marks;
     let out = &mut *b.out;
-    let laid = lay_out(accepted, parts, store)?;
+    let laid = lay_out(accepted, parts, store, archived)?;
     let args = RenderArgs {
         stop: laid.state.row,
         width: Columns(REFERENCE_WIDTH),
@@ -117,13 +143,13 @@ fn by_declarations(accepted: &Accepted, parts: Parts, b: &mut Buffers) -> Result
 }
 
 // What the first layout call answers to a frame whose source or image is refused.
-fn refused_found(stored: &Stored, parts: Parts, store: &mut [u32]) -> Result<(), Difference> {
-    let args = LayoutArgs {
-        stop: 0,
-        close: false,
-        mode: OLD_MODE,
-        rule: SUPPLIED,
-    };
+fn refused_found(
+    stored: &Stored,
+    parts: Parts,
+    store: &mut [u32],
+    archived: bool,
+) -> Result<(), Difference> {
+    let args = args_of(0, false, archived);
     match layout_call(
         parts.source,
         parts.image,
@@ -137,14 +163,19 @@ fn refused_found(stored: &Stored, parts: Parts, store: &mut [u32]) -> Result<(),
 }
 
 // Refusal 13 first, then the parts of the frame; what the whole run alone refuses, with 8 or 10, is left to it.
-pub(crate) fn pieces(stored: &Stored, frame: &[u8], b: &mut Buffers) -> Result<(), Difference> {
+pub(crate) fn pieces(
+    stored: &Stored,
+    frame: &[u8],
+    b: &mut Buffers,
+    archived: bool,
+) -> Result<(), Difference> {
     let Some(parts) = parts_of(frame) else {
         return stored.told.refused(Reason::Frame.at(0));
     };
     match stored.accepted {
-        Some(accepted) => by_declarations(&accepted, parts, b),
+        Some(accepted) => by_declarations(&accepted, parts, b, archived),
         None if stored.told.number < usize::from(Reason::RowsNeeded.number()) => {
-            refused_found(stored, parts, b.store)
+            refused_found(stored, parts, b.store, archived)
         }
         None => Ok(()),
     }

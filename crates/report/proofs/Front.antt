@@ -79,7 +79,8 @@ sourced : (s b : List ℕ) → 5 + MAX_BODY < length b → read_all s b ≡ Sour
 unfolding read_with read_image
 sourced s b h = rw (no_header b h)
 
-alike_with : (fits formed : Bool) (q : ℕ) (s b b2 : List ℕ) (t : Tallies) → version b ≡ version b2 → read_all s b ≡ Sourced fits formed q → read_all s b2 ≡ Sourced fits formed q
+alike_with : (fits formed : Bool) (q : ℕ) (s b b2 : List ℕ) (t : Tallies) → version b ≡ version b2
+    → read_all s b ≡ Sourced fits formed q → read_all s b2 ≡ Sourced fits formed q
     → count_answer s b t ≡ count_answer s b2 t
 alike_with false formed q s b b2 t v e f = refused_alike s b s b2 t (record { reason = reason.SourceTooLong; place = 0 }) v e f
 alike_with true false q s b b2 t v e f = refused_alike s b s b2 t (record { reason = reason.SourceNotUtf8; place = q }) v e f

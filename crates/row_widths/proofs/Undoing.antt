@@ -52,7 +52,8 @@ module _ (s : List ℕ) (i a b c : ℕ) (h : i * PLACES + WIDTH < length s) wher
 three_again : (s : List ℕ) (i a b c x y z : ℕ) → i * PLACES + WIDTH < length s → cell s i KIND ≡ x → cell s i NUMBER ≡ y → cell s i WIDTH ≡ z
     → three (three s i a b c) i x y z ≡ s
 three_again s i a b c x y z h p q r =
-    ext_get_or 0 (three t i x y z) s (lt ∙ ls) (λ j m. at j (eqb j (i * PLACES + KIND)) refl (eqb j (i * PLACES + NUMBER)) refl (eqb j (i * PLACES + WIDTH)) refl)
+    ext_get_or 0 (three t i x y z) s (lt ∙ ls) (λ j m.
+    at j (eqb j (i * PLACES + KIND)) refl (eqb j (i * PLACES + NUMBER)) refl (eqb j (i * PLACES + WIDTH)) refl)
   where
     t : List ℕ
     t = three s i a b c

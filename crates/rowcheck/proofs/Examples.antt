@@ -23,7 +23,8 @@ image = 0x80 ∷ 0x80 ∷ []
 
 -- half of the character
 half : wrong_place_by UNICODE_15_1 source image (comment 0 0 1) 0 1 ≡ Some 0
-unfolding wrong_place_by wrong_row_of first_wrong row_fits_of parts_fit places_fit_by places_fit text_whole text_bytes origin_text cuts sequence followed row_in within
+unfolding wrong_place_by wrong_row_of first_wrong row_fits_of parts_fit places_fit_by places_fit text_whole text_bytes origin_text
+    cuts sequence followed row_in within
     well_formed prefix run view_of
 half = refl
 
@@ -34,19 +35,22 @@ half_supplied = refl
 
 -- nothing, inside the character
 inside : wrong_place_by UNICODE_15_1 source image (comment 0 1 0) 0 1 ≡ Some 0
-unfolding wrong_place_by wrong_row_of first_wrong row_fits_of parts_fit places_fit_by places_fit text_whole text_bytes origin_text cuts sequence followed row_in within
+unfolding wrong_place_by wrong_row_of first_wrong row_fits_of parts_fit places_fit_by places_fit text_whole text_bytes origin_text
+    cuts sequence followed row_in within
     well_formed prefix run view_of
 inside = refl
 
 -- nothing, at the source's end
 at_end : wrong_place_by UNICODE_15_1 source image (comment 0 2 0) 0 1 ≡ None
-unfolding wrong_place_by wrong_row_of first_wrong row_fits_of parts_fit places_fit_by places_fit text_whole text_bytes origin_text cuts sequence followed row_in within
+unfolding wrong_place_by wrong_row_of first_wrong row_fits_of parts_fit places_fit_by places_fit text_whole text_bytes origin_text
+    cuts sequence followed row_in within
     well_formed prefix run view_of
 at_end = refl
 
 -- nothing, at a byte of the image that is inside no character
 stray : wrong_place_by UNICODE_15_1 source image (comment 1 1 0) 0 1 ≡ None
-unfolding wrong_place_by wrong_row_of first_wrong row_fits_of parts_fit places_fit_by places_fit text_whole text_bytes origin_text cuts sequence followed row_in within
+unfolding wrong_place_by wrong_row_of first_wrong row_fits_of parts_fit places_fit_by places_fit text_whole text_bytes origin_text
+    cuts sequence followed row_in within
     well_formed prefix run view_of
 stray = refl
 
@@ -59,12 +63,14 @@ torn = 4 ∷ 0 ∷ 0 ∷ 0 ∷ 3 ∷ 0 ∷ 0 ∷ 1 ∷ 0 ∷ []
 
 -- a torn row before one that doesn't nest goes first
 torn_before : wrong_place_by UNICODE_15_1 source image (comment 0 0 1 ++ loose) 0 2 ≡ Some 0
-unfolding wrong_place_by wrong_row_of first_wrong row_fits_of parts_fit places_fit_by places_fit text_whole text_bytes origin_text cuts sequence followed row_in within
+unfolding wrong_place_by wrong_row_of first_wrong row_fits_of parts_fit places_fit_by places_fit text_whole text_bytes origin_text
+    cuts sequence followed row_in within
     well_formed prefix run view_of
 torn_before = refl
 
 -- a torn row behind it doesn't
 torn_behind : wrong_place_by UNICODE_15_1 source image (comment 0 0 2 ++ (loose ++ torn)) 0 3 ≡ Some 1
-unfolding wrong_place_by wrong_row_of first_wrong row_fits_of parts_fit places_fit_by places_fit text_whole text_bytes origin_text cuts sequence followed row_in within
+unfolding wrong_place_by wrong_row_of first_wrong row_fits_of parts_fit places_fit_by places_fit text_whole text_bytes origin_text
+    cuts sequence followed row_in within
     well_formed prefix run view_of
 torn_behind = refl

@@ -8,7 +8,8 @@ ghost use Rattle.rows.specs.Kinds.{number_of};
 ghost use Rattle.rows.specs.Places.{KIND, AFTER, PLACES};
 ghost use Rattle.rows.specs.Limits.{MAX_ROWS};
 ghost use Rattle.rows.specs.View.{cell, view_of};
-ghost use Rattle.renderer_rules.specs.Check.{reaches, has_two, is_split, parts_fit, text_fits, places_fit, row_fits_of, wrong_row_of, wrong_place, wrong_place_by};
+ghost use Rattle.renderer_rules.specs.Check.{reaches, has_two, is_split, parts_fit, text_fits, places_fit, row_fits_of, wrong_row_of};
+ghost use Rattle.renderer_rules.specs.Check.{wrong_place, wrong_place_by};
 ghost use Rattle.refusals.specs.Refusals.{refuse_at};
 ghost use Rattle.refusals.specs.Reasons.{refusal_in};
 

@@ -19,12 +19,13 @@ use Rattle.steps.specs.Writer.{contents_from, image_by}
 use Rattle.steps.specs.OfImage.{steps_of}
 use Rattle.steps.specs.Exact.{Turns, ExactlyOne, ReadsBack, WrittenReadsBack}
 use Rattle.image.specs.Write.{Bytes}
-use Rattle.steps.proofs.WholeList.{contents_taken, list_is}
+use Rattle.tree.proofs.Ordered.{in_order, strict_order, read_alike}
+use Rattle.steps.proofs.WholeList.{Taken, contents_taken, list_is}
 use Rattle.steps.proofs.WholeAccepted.{contents_there}
 use Rattle.image.proofs.Versions.{two_bytes}
 use Rattle.tree.proofs.Fits.{FitsAll}
-use Rattle.tree.proofs.WholeFits.{read_as, whole_fits, image_is, image_short}
-use Rattle.tree.proofs.WholeAgain.{AgainAll, all_again}
+use Rattle.tree.proofs.WholeFits.{read_as, whole_fits, image_is, image_short, suits}
+use Rattle.tree.proofs.WholeAgain.{Writes, AgainAll, all_again, comments_are}
 
 -- ---- what is turned into an image
 -- the answer for the image y of an accepted list, with room for b
@@ -75,24 +76,30 @@ turns_into l b c end e i short =
 
 -- ---- a written image
 module _ (s l b : List ℕ) (small : Bytes l) (t : Turns l b) where
-  again : AgainAll false s b (contained l b t).contents (read_version 1 false s b)
-  again =
+  taken : Taken l (contained l b t).contents
+  taken = let c = contained l b t in contents_taken l c.contents c.end c.from
+
+  writes : Writes (eqb 1) 1 (contained l b t).contents b
+  writes =
       let c = contained l b t in
       let one : version b ≡ 1 = ap (λ (x : List ℕ). get_or x 0 0) (sym c.image) in
-      let fits = subst (λ (v : ℕ). FitsAll v c.contents) (sym (two_bytes b one)) (contents_taken l c.contents c.end c.from).0 in
-      all_again (eqb 1) false s b 1 c.contents
-      (record { known = inl refl; may_be = refl; fits = fits; image = c.image; short = c.short })
+      let fits = subst (λ (v : ℕ). FitsAll v c.contents) (sym (two_bytes b one)) taken.fits in
+      record { known = inl refl; may_be = refl; fits = fits; image = c.image; short = c.short }
+
+  again : AgainAll true s b (contained l b t).contents (read_version 1 true s b)
+  again = all_again (eqb 1) true s b 1 (contained l b t).contents writes
 
   pub reads_back : ReadsBack s l b
   reads_back =
       let c = contained l b t in
       record {
         refused_by = λ n p e.
-            let held : AgainAll false s b c.contents (bad n p) = rw e at again in
+            let held : AgainAll true s b c.contents (bad n p) = rw e at again in
             held.0;
         gives = λ i end e.
             let same : contents_of b i ≡ c.contents = rw e at again in
             ap (λ (x : Contents). list_bytes (steps x)) same ∙ sym (list_is l c.contents c.end small c.from);
+        ordered = read_alike (eqb 1) s b (ap (in_order 0) (comments_are (eqb 1) true s b 1 c.contents writes) ∙ taken.order);
       }
 
 pub written_reads_back : WrittenReadsBack
@@ -101,12 +108,13 @@ written_reads_back = reads_back
 -- ---- an image that is read
 pub exactly_one : ExactlyOne
 exactly_one s b i end small h =
-    let r = read_as (eqb 1) false s b i end h in
+    let r = read_as (eqb 1) true s b i end h in
     let c = contents_of b i in
     let one : version b ≡ 1 = sym (eqb-true 1 (version b) r.root.head.may_be) in
-    let fits = subst (λ (v : ℕ). FitsAll v c) (two_bytes b one) (whole_fits (eqb 1) false s b small i r) in
-    let is : image_of 1 c ≡ b = ap (λ (n : ℕ). image_of n c) (sym one) ∙ image_is (eqb 1) false s b small i r in
+    let fits = subst (λ (v : ℕ). FitsAll v c) (two_bytes b one) (whole_fits (eqb 1) true s b small i r) in
+    let is : image_of 1 c ≡ b = ap (λ (n : ℕ). image_of n c) (sym one) ∙ image_is (eqb 1) true s b small i r in
+    let order = strict_order s c.comments 0 (suits (eqb 1) true s b small i r).listed in
     record {
-      turns = turns_into (steps_of b i) b c _ (contents_there c fits) is (image_short (eqb 1) false s b small i r);
+      turns = turns_into (steps_of b i) b c _ (contents_there c fits order) is (image_short (eqb 1) true s b small i r);
       only = λ l small-l t. sym ((reads_back s l b small-l t).gives i end h);
     }

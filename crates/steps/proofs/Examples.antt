@@ -12,11 +12,13 @@ use Rattle.image.specs.Grammar.{row_of, row_under_of, kind_fits_of, payload_fits
 use Rattle.image.specs.Read.{bad, header, comment_fits, comments, shape, opens, children_at, skips}
 use Rattle.image.specs.Read.{record_at, tree_at, read_tree, read_image, source_fits, read_with, width_bytes, stored_width, read_all}
 use Rattle.image.specs.Read as Reader
-use Rattle.image.specs.Write.{written, plain}
-use Rattle.tree.specs.CommentList.{pairs_at, comments_of}
+use Rattle.image.specs.Write.{plainly, without, done, ◌next◌, written, plain}
+use Rattle.ast.specs.Syntax.{Span}
+use Rattle.tree.specs.CommentList.{span, pairs_at, comments_of}
+use Rattle.tree.specs.Contents.{image_of}
 use Rattle.steps.specs.Steps.{Step, comment_step, open_step, text_step, payload_step, absent_step, close_step, list_bytes, tree_steps}
 use Rattle.steps.specs.Writer.{step_from, comments_from, opened_from, payload_from, children_from, record_from, contents_from, writer_answer, writer_output}
-use Rattle.steps.specs.OfImage.{steps_due}
+use Rattle.steps.specs.OfImage.{steps_due, steps_of_answer}
 
 -- ---- document 01's worked input
 shebang : List ℕ
@@ -45,6 +47,20 @@ unfolding shebang shebang_steps read_with width_bytes stored_width source_fits r
     payload_fits first_child row_under_of row_of children_at skips be16 be32 is_range boundary well_formed prefix run within sequence followed row_in plain
     tree_steps comments_of pairs_at
 shebang_steps_lem = refl
+
+-- ---- images with comments: those that touch have steps, those that run backwards are refused at the second pair
+commented : List Span → List ℕ
+commented cs = image_of 1 (record { comments = cs; tree = plainly 1 0 0 [] (without next done) })
+
+commented_steps : List Span → Answer ℕ
+commented_steps cs = steps_of_answer (replicate 3 0x61) (commented cs) 4096
+
+examples_commented : commented_steps (span 0 2 ∷ span 2 3 ∷ []) ∷ commented_steps (span 2 3 ∷ span 0 2 ∷ []) ∷ []
+    ≡ accepted 30 ∷ refused (record { number = 7; place = 15 }) ∷ []
+unfolding commented commented_steps read_with width_bytes stored_width source_fits read_image header comments Reader.comments_from comment_fits
+    read_tree tree_at record_at opens shape kind_fits_of payload_fits first_child row_under_of row_of children_at skips be16 be32 is_range boundary
+    well_formed prefix run within sequence followed row_in plain written tree_steps comments_of pairs_at
+examples_commented = refl
 
 -- ---- the answers to lists
 record Example : Type 0 where
@@ -102,8 +118,9 @@ right : List Example
 right =
     with_room 39 shebang_steps (accepted 39) ∷
     answers (tree []) (accepted 24) ∷
-    -- comments may overlap and run backwards
-    answers (comment_step 2 3 ∷ comment_step 0 3 ∷ tree []) (accepted 40) ∷
+    -- comments touch, or leave a gap
+    answers (comment_step 0 2 ∷ comment_step 2 3 ∷ tree []) (accepted 40) ∷
+    answers (comment_step 1 2 ∷ comment_step 4 5 ∷ tree []) (accepted 40) ∷
     answers (constant (literal 3)) (accepted 93) ∷
     answers (constant (assigns 4)) (accepted 149) ∷
     answers (tree (imports 31)) (accepted 975) ∷
@@ -126,6 +143,12 @@ wrong =
     answers (opening 1 ∷ comment_step 0 1 ∷ []) (refusal 16 10) ∷
     answers (comment_step 1 1 ∷ tree []) (refusal 16 0) ∷
     answers (comment_step 0 1 ∷ comment_step 2 1 ∷ tree []) (refusal 16 9) ∷
+    -- one that starts before the end of the one before: by a byte, wholly, with it; and before an empty one, and behind it
+    answers (comment_step 0 2 ∷ comment_step 1 3 ∷ tree []) (refusal 16 9) ∷
+    answers (comment_step 2 3 ∷ comment_step 0 1 ∷ tree []) (refusal 16 9) ∷
+    answers (comment_step 0 1 ∷ comment_step 2 3 ∷ comment_step 2 3 ∷ tree []) (refusal 16 18) ∷
+    answers (comment_step 2 3 ∷ comment_step 0 1 ∷ comment_step 4 4 ∷ tree []) (refusal 16 9) ∷
+    answers (comment_step 2 3 ∷ comment_step 4 4 ∷ comment_step 0 1 ∷ tree []) (refusal 16 9) ∷
     -- a wrong kind, also of the tree itself; a span that is reversed
     answers (opening 2 ∷ []) (refusal 16 0) ∷
     answers (tree name) (refusal 16 11) ∷
@@ -156,6 +179,6 @@ unfolding right wrong shebang_steps opening tree name constant literal assigns i
 examples_right = refl
 
 -- a comment more than are allowed, here one
-too_many : comments_from (list_bytes (comment_step 0 1 ∷ comment_step 0 1 ∷ tree [])) 1 0 ≡ bad 16 9
+too_many : comments_from (list_bytes (comment_step 0 1 ∷ comment_step 1 2 ∷ tree [])) 1 0 0 ≡ bad 16 9
 unfolding tree opening comments_from step_from be32
 too_many = refl

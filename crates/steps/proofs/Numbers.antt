@@ -47,21 +47,21 @@ step_sixteen l at =
     (pick (eqb k CLOSE_STEP) _ _ (whole_sixteen l at 1 _) refl)))))
 
 -- ---- comments
-pair_sixteen : (at : ℕ) (x : Step) (past : ℕ) → Sixteen (pair_by at x past)
-pair_sixteen at (comment_step start end) past = pick (ltb start end) _ _ tt refl
-pair_sixteen at (open_step kind start end) past = refl
-pair_sixteen at (text_step width t) past = refl
-pair_sixteen at (payload_step x) past = refl
-pair_sixteen at absent_step past = refl
-pair_sixteen at close_step past = refl
+pair_sixteen : (least at : ℕ) (x : Step) (past : ℕ) → Sixteen (pair_by least at x past)
+pair_sixteen least at (comment_step start end) past = pick (leb least start && ltb start end) _ _ tt refl
+pair_sixteen least at (open_step kind start end) past = refl
+pair_sixteen least at (text_step width t) past = refl
+pair_sixteen least at (payload_step x) past = refl
+pair_sixteen least at absent_step past = refl
+pair_sixteen least at close_step past = refl
 
-comments_sixteen : (l : List ℕ) (n at : ℕ) → Sixteen (comments_from l n at)
+comments_sixteen : (l : List ℕ) (n least at : ℕ) → Sixteen (comments_from l n least at)
 unfolding comments_from
-comments_sixteen l zero at = pick (eqb (get_or l at 0) COMMENT_STEP) _ _ refl tt
-comments_sixteen l (suc n) at =
+comments_sixteen l zero least at = pick (eqb (get_or l at 0) COMMENT_STEP) _ _ refl tt
+comments_sixteen l (suc n) least at =
     pick (eqb (get_or l at 0) COMMENT_STEP) _ _
-    (then (bind (step_from l at) (pair_by at)) _ (then (step_from l at) (pair_by at) (step_sixteen l at) (pair_sixteen at))
-    (λ c past. then (comments_from l n past) _ (comments_sixteen l n past) (λ cs end. tt)))
+    (then (bind (step_from l at) (pair_by least at)) _ (then (step_from l at) (pair_by least at) (step_sixteen l at) (pair_sixteen least at))
+    (λ c past. then (comments_from l n c.end past) _ (comments_sixteen l n c.end past) (λ cs end. tt)))
     tt
 
 -- ---- records
@@ -134,7 +134,7 @@ record_sixteen l (suc left) p at =
 contents_sixteen : (l : List ℕ) → Sixteen (contents_from l)
 unfolding contents_from
 contents_sixteen l =
-    then (comments_from l MAX_COMMENTS 0) _ (comments_sixteen l MAX_COMMENTS 0)
+    then (comments_from l MAX_COMMENTS 0 0) _ (comments_sixteen l MAX_COMMENTS 0 0)
     (λ cs at.
     then (record_from l MAX_RECORDS_DEEP TREE at) _ (record_sixteen l MAX_RECORDS_DEEP TREE at)
     (λ t end. pick (ltb end (length l)) _ _ refl tt))

@@ -12,7 +12,6 @@ use Rattle.laws.proofs.Booleans.{and_left, and_right, and_false}
 use Rattle.image.specs.Grammar.{Grammar, others, ◌⇒◌∣◌, grammar, is_list, is_optional, is_many, element, place, after, many, row_in, row_of, row_under_of}
 use Rattle.image.specs.Read.{got}
 use Rattle.image.specs.Write.{Plain, Plains, written, writtens}
-use Rattle.ast.specs.Syntax.{Span}
 use Rattle.steps.specs.Steps.{Step, list_bytes, payload_steps, tree_steps, child_steps, close_step}
 use Rattle.steps.specs.Rows.{short}
 use Rattle.steps.specs.Writer.{record_from}

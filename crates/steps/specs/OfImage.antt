@@ -1,5 +1,5 @@
 -- The steps of an image: refused by 1 to 7 where the reader refuses it, then by 17 where they are longer than the output.
-use Rattle.std.specs.Prelude.{false, List, [], ◌∷◌, ℕ, ltb, length, Option}
+use Rattle.std.specs.Prelude.{true, List, [], ◌∷◌, ℕ, ltb, length, Option}
 use Rattle.std.proofs.lemmas.List.Edits.{sets}
 use Rattle.refusals.specs.Refusals.{Refusal, first, refuse_if, unless}
 use Rattle.refusals.specs.Answers.{Answer, answer_by}
@@ -16,13 +16,14 @@ abbrev pub steps_by : List ℕ → Read Image → List ℕ
 steps_by b (got i end) = steps_of b i
 steps_by b (bad n p) = []
 
+-- of version 1, its comments in order: "the writer's rule on steps" is "the strict one", and so is that on images
 abbrev pub steps_due : List ℕ → List ℕ → List ℕ
-steps_due s b = steps_by b (read_version 1 false s b)
+steps_due s b = steps_by b (read_version 1 true s b)
 
 -- 1 to 7, then 17, with the bytes needed
 abbrev pub steps_of_refusal : List ℕ → List ℕ → ℕ → Option Refusal
 steps_of_refusal s b room =
-    first (read_refusal (read_version 1 false s b) ∷ refuse_if (ltb room (length (steps_due s b))) 17 (length (steps_due s b)) ∷ [])
+    first (read_refusal (read_version 1 true s b) ∷ refuse_if (ltb room (length (steps_due s b))) 17 (length (steps_due s b)) ∷ [])
 
 -- the answer gives the bytes of the steps; and the output at exit
 abbrev pub steps_of_answer : List ℕ → List ℕ → ℕ → Answer ℕ

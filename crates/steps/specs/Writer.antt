@@ -36,20 +36,21 @@ step_from l at =
     (bad 16 at))))))
 
 -- ---- comments
--- "empty or reversed comments" are refused
-abbrev pub pair_by : ℕ → Step → ℕ → Read Span
-pair_by at (comment_step start end) past = cond (ltb start end) (got (span start end) past) (bad 16 at)
-pair_by at (open_step kind start end) past = bad 16 at
-pair_by at (text_step width t) past = bad 16 at
-pair_by at (payload_step x) past = bad 16 at
-pair_by at absent_step past = bad 16 at
-pair_by at close_step past = bad 16 at
+-- "empty or reversed comments" are refused, and "a comment must start at or after the end of the one before", which is `least`; before the first none
+-- ends, and its `least` is 0
+abbrev pub pair_by : ℕ → ℕ → Step → ℕ → Read Span
+pair_by least at (comment_step start end) past = cond (leb least start && ltb start end) (got (span start end) past) (bad 16 at)
+pair_by least at (open_step kind start end) past = bad 16 at
+pair_by least at (text_step width t) past = bad 16 at
+pair_by least at (payload_step x) past = bad 16 at
+pair_by least at absent_step past = bad 16 at
+pair_by least at close_step past = bad 16 at
 
--- the comments, up to the first other step; n more are allowed
-unfoldable pub comments_from : List ℕ → ℕ → ℕ → Read (List Span)
-comments_from l zero at = cond (eqb (get_or l at 0) COMMENT_STEP) (bad 16 at) (got [] at)
-comments_from l (suc n) at =
-    let more = bind (bind (step_from l at) (pair_by at)) (λ c past. bind (comments_from l n past) (λ cs end. got (c ∷ cs) end)) in
+-- the comments, up to the first other step; n more are allowed, the first of them from `least` on
+unfoldable pub comments_from : List ℕ → ℕ → ℕ → ℕ → Read (List Span)
+comments_from l zero least at = cond (eqb (get_or l at 0) COMMENT_STEP) (bad 16 at) (got [] at)
+comments_from l (suc n) least at =
+    let more = bind (bind (step_from l at) (pair_by least at)) (λ c past. bind (comments_from l n c.end past) (λ cs end. got (c ∷ cs) end)) in
     cond (eqb (get_or l at 0) COMMENT_STEP) more (got [] at)
 
 -- ---- records
@@ -135,7 +136,7 @@ record_from l (suc left) p at =
 -- comments, the tree, and nothing after it
 unfoldable pub contents_from : List ℕ → Read Contents
 contents_from l =
-    bind (comments_from l MAX_COMMENTS 0)
+    bind (comments_from l MAX_COMMENTS 0 0)
     (λ cs at.
     bind (record_from l MAX_RECORDS_DEEP TREE at)
     (λ t end. cond (ltb end (length l)) (bad 16 end) (got (record { comments = cs; tree = t }) end)))

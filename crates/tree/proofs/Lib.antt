@@ -12,4 +12,5 @@ pub mod ReadFits
 pub mod ReadsAgain
 pub mod WholeFits
 pub mod WholeAgain
+pub mod Ordered
 pub mod Examples

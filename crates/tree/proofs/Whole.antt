@@ -10,7 +10,7 @@ use lib.Dec.{lit≤}
 use Rattle.text.specs.Utf8.{prefix, well_formed, within}
 use Rattle.image.specs.Grammar.{any_declaration, row_of, row_under_of, first_child}
 use Rattle.image.specs.Read.{got, bad, Tree, Trees, Image, width_bytes, any_version, stop_at}
-use Rattle.image.specs.Read.{tree_at, read_image, source_fits, read_with, read_all, document_of, outcome}
+use Rattle.image.specs.Read.{tree_at, read_image, source_fits, read_with, read_earlier, document_of, outcome}
 use Rattle.image.proofs.Shapes.{is_got}
 use Rattle.image.proofs.Accepted.{Root, rooted}
 use Rattle.tree.specs.At.{Clear, IdentAt, DeclarationsAt, TreeAt}
@@ -67,8 +67,8 @@ module _ (s b : List ℕ) where
       let same : record { comments = i.comments; tree = r.tree; at = i.at } ≡ i = cc r.whole in
       rw (← ap (λ (j : Image). j.tree) same) (root_at may ordered i.comments i.at r)
 
-  -- The same of source and image.
-  pub stands : (i : Image) (q : ℕ) → read_all s b ≡ got i q → TreeAt s b (syntax_tree b i.tree) i.at
+  -- The same of source and image, by the earlier rule at least.
+  pub stands : (i : Image) (q : ℕ) → read_earlier s b ≡ got i q → TreeAt s b (syntax_tree b i.tree) i.at
   unfolding read_with
   stands i q h = go (source_fits s) (well_formed s) h
     where

@@ -134,7 +134,7 @@ module _ (may : ℕ → Bool) (ordered : Bool) (s b : List ℕ) (n : ℕ) (c : C
         w.may_be,
       )
 
-  comments_are : comments_of b ≡ c.comments
+  pub comments_are : comments_of b ≡ c.comments
   unfolding comments_of
   comments_are = rw count_is (pairs_are b c.comments 7 (stands_left (pair_bytes c.comments) (written c.tree) pairs))
 

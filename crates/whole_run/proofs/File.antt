@@ -16,7 +16,7 @@ use borrow.Author.Tests.{le-ltb, le-leb, eq-eqb}
 use Rattle.text.specs.Utf8.{prefix, well_formed, ill_formed}
 use Rattle.rows.specs.Places.{PLACES}
 use Rattle.image.specs.Bytes.{be32}
-use Rattle.image.specs.Read.{Read, got, bad, Image, version, any_version, header, header_fits, source_fits, read_all, document_of, outcome, read_refusal}
+use Rattle.image.specs.Read.{Read, got, bad, Image, version, any_version, header, header_fits, source_fits, read_earlier, document_of, outcome, read_refusal}
 use Rattle.image.proofs.Accepted.{Header, accepted}
 use Rattle.rows.specs.Node.{Nodes}
 use Rattle.rows.specs.Rows.{sizes, rows}
@@ -39,7 +39,8 @@ use Rattle.cut_rule.specs.Laws.{SameBefore}
 use Rattle.cut_rule.specs.Run.{write_front, CallResult, laid_out, written}
 use Rattle.cut_rule.specs.Entries.{layout_answer, layout_store, render_gives, render_answer, render_marks, render_output}
 use Rattle.cut_rule.specs.States.{LayoutState, RenderState, layout_fresh, render_fresh, LayoutChoice, RenderChoice}
-use Rattle.cut_rule.specs.Tests.{rows_in, render_tests, places_tests, limit_tests, begun_tests, stop_tests, mode_tests, rule_tests, row_tests, pen_tests, mark_tests}
+use Rattle.cut_rule.specs.Tests.{rows_in, render_tests, places_tests, limit_tests, begun_tests, stop_tests, mode_tests, rule_tests}
+use Rattle.cut_rule.specs.Tests.{row_tests, pen_tests, mark_tests}
 use Rattle.cut_rule.specs.Parts.{layout_tests, rows_needed, before_rows, rows_line, with_cleared, drawn_of, before_marks, marks_line, text_line, render_table}
 use Rattle.whole_run.specs.Parts.{formed_line, render_image, keeps_waiting, page, drawn, widest_drawn, parts_of}
 use Rattle.whole_run.specs.Demands.{rules_of, laid_to, closing_at}
@@ -86,10 +87,10 @@ module _ (s b : List ℕ) where
   count = length (declared s b)
 
   -- 1 and 3
-  pub image_passes : (rule : ℕ) → read_refusal (read_all s b) ≡ None → render_image rule s b ≡ None
-  image_passes rule h = go (read_all s b) refl h
+  pub image_passes : (rule : ℕ) → read_refusal (read_earlier s b) ≡ None → render_image rule s b ≡ None
+  image_passes rule h = go (read_earlier s b) refl h
     where
-      go : (r : Read Image) → read_all s b ≡ r → read_refusal r ≡ None → render_image rule s b ≡ None
+      go : (r : Read Image) → read_earlier s b ≡ r → read_refusal r ≡ None → render_image rule s b ≡ None
       go (bad n p) e h = let z : ◌≡◌ {A = ℕ} 0 1 = cc in absurd (omega arith)
       go (got i end) e h =
           let a = accepted s b (document_of i) (record { answer = ap outcome e }) in
@@ -112,10 +113,10 @@ module _ (s b : List ℕ) where
       rule = c.rule;
     }
 
-    laid_due : ◌≡◌ {A = LayoutResult LayoutState} (laid_to (read_all s b) s b layout_args)
+    pub laid_due : ◌≡◌ {A = LayoutResult LayoutState} (laid_to (read_earlier s b) s b layout_args)
         (record { state = state_due; rows = rows (laid s b c) 0; left = length (comments_of b) - (built s b c).placed })
     laid_due =
-        let g = (fmt_parsed_lem (read_all s b) s b).closed_in (layout_choice c) in
+        let g = (fmt_parsed_lem (read_earlier s b) s b).closed_in (layout_choice c) in
         λ t.
         record {
           state = record {
@@ -131,13 +132,14 @@ module _ (s b : List ℕ) where
         }
 
     rows_needed_lem : rows_needed (parts_of s b) layout_args layout_fresh ≡ rows_due s b c
-    rows_needed_lem = ((fmt_parsed_lem (read_all s b) s b).closed_in (layout_choice c)).row_due
+    rows_needed_lem = ((fmt_parsed_lem (read_earlier s b) s b).closed_in (layout_choice c)).row_due
 
     -- the rows that the layout call leaves
     same_rows : (store : List ℕ) → SameBefore (rows_due s b c) (rows (laid s b c) 0) (write_front (rows (laid s b c) 0) store)
     same_rows store =
         let r = rows (laid s b c) 0 in
-        sym (take-append-le (PLACES * rows_due s b c) r (drop (length r) store) (omega (arith, length_rows (laid s b c) 0, laid_size c.rule s b (built s b c).nodes)))
+        let inside : PLACES * rows_due s b c ≤ length r = omega (arith, length_rows (laid s b c) 0, laid_size c.rule s b (built s b c).nodes) in
+        sym (take-append-le (PLACES * rows_due s b c) r (drop (length r) store) inside)
 
     -- 12
     layout_passes : mode_line c ≡ None → (store : List ℕ) → any (layout_tests (parts_of s b) layout_args layout_fresh store) ≡ false
@@ -201,29 +203,29 @@ module _ (s b : List ℕ) where
         (none_both (mark_tests marks 0) (rule_tests c.rule 0) (rw (le-ltb (length marks) 0 (omega arith))) refl))
 
     module _ (store : List ℕ) where
-      abbrev rowed : List ℕ
+      abbrev pub rowed : List ℕ
       rowed = write_front (rows (laid s b c) 0) store
 
       -- 11
-      rows_right : read_refusal (read_all s b) ≡ None → wrong_place_by c.rule s b rowed 0 (rows_due s b c) ≡ None
+      rows_right : read_refusal (read_earlier s b) ≡ None → wrong_place_by c.rule s b rowed 0 (rows_due s b c) ≡ None
       rows_right read =
-          let g = (fmt_parsed_lem (read_all s b) s b).closed_in (layout_choice c) in
-          (render_parts s b (read_all s b)).right_local (render_choice c) (rows (laid s b c) 0) rowed (rows_due s b c) (same_rows store)
+          let g = (fmt_parsed_lem (read_earlier s b) s b).closed_in (layout_choice c) in
+          (render_parts s b (read_earlier s b)).right_local (render_choice c) (rows (laid s b c) 0) rowed (rows_due s b c) (same_rows store)
           (subst₂ (λ (x : List ℕ) (n : ℕ). wrong_place_by c.rule s b x 0 n ≡ None) g.rows_due_of g.row_due
           (((all_limited s b read).closed (layout_choice c)).right c.rule))
 
       marks_due_of : marks_needed (rows_due s b c - 0) rowed 0 ≡ marks_due s b c
       marks_due_of =
-          sym ((render_parts s b (read_all s b)).needed_local (rows (laid s b c) 0) rowed 0 (rows_due s b c) (same_rows store))
+          sym ((render_parts s b (read_earlier s b)).needed_local (rows (laid s b c) 0) rowed 0 (rows_due s b c) (same_rows store))
           ∙ ap (λ (n : ℕ). marks_needed n (rows (laid s b c) 0) 0) (sub-zero (rows_due s b c))
 
       drawn_due_of : drawn_of (parts_of s b) render_fresh render_to [] rowed ≡ drawn_due s b c
       drawn_due_of =
-          let g = (fmt_parsed_lem (read_all s b) s b).closed_in (layout_choice c) in
+          let g = (fmt_parsed_lem (read_earlier s b) s b).closed_in (layout_choice c) in
           let z = render_fresh in
           let m = marks_needed (rows_due s b c - 0) rowed 0 in
           let cleared : List ℕ = replicate (marks_due s b c) 0 in
-          sym ((render_parts s b (read_all s b)).draw_local z render_to (replicate (m - 0) 0) (rows (laid s b c) 0) rowed (same_rows store))
+          sym ((render_parts s b (read_earlier s b)).draw_local z render_to (replicate (m - 0) 0) (rows (laid s b c) 0) rowed (same_rows store))
           ∙ ap (λ (n : ℕ). drawn s b z render_to (replicate n 0) (rows (laid s b c) 0)) (sub-zero m ∙ marks_due_of)
           ∙ ap₂ (λ (x : List ℕ) (n : ℕ). drawn s b z (record { stop = n; choice = render_choice c }) cleared x) (sym g.rows_due_of) (sym g.row_due)
           ∙ g.drawn_due_of (render_choice c) z cleared refl
@@ -246,13 +248,13 @@ module _ (s b : List ℕ) where
           λ t.
           first
           (p.chosen t
-          ∷ image_passes c.rule p.read t
-          ∷ refuse_at (rows_right p.read t) 11
+          ∷ image_passes c.rule p.earlier t
+          ∷ refuse_at (rows_right p.earlier t) 11
           ∷ refuse_if (render_passes rowed marks out t) 12 0
           ∷ p.legal t
           ∷ [])
 
-      rendered_due_lem : (marks out : List ℕ)
+      pub rendered_due_lem : (marks out : List ℕ)
           → render_gives (rules_of s b) (render_args out) render_fresh rowed marks
           ≡ record {
             state = record { pen = (drawn_due s b c).pen; in_use = max 0 (marks_due s b c); row = rows_due s b c; width = c.width; rule = c.rule };
@@ -341,5 +343,5 @@ pub new_mode_leaves_none : NewModeLeavesNone
 new_mode_leaves_none s b c in_rows in_marks room r new e =
     let a = accepted_by (refusal_in s b c in_rows in_marks room) r (file_result s b c) (sym e) in
     let p = laid_passed s b c in_rows (before_marks_lem s b c in_rows in_marks room a.passes) in
-    let all = closing_places_all s b [] (layout_args s b c) layout_fresh p.read (layout_passes s b c p.moded []) refl new in
-    ap (λ (x : FileResult). x.left) a.is ∙ sym ((fmt_parsed_lem (read_all s b) s b).closed_in (layout_choice c)).left_due_of ∙ all.left
+    let all = closing_places_all s b [] (layout_args s b c) layout_fresh p.earlier (layout_passes s b c p.moded []) refl new in
+    ap (λ (x : FileResult). x.left) a.is ∙ sym ((fmt_parsed_lem (read_earlier s b) s b).closed_in (layout_choice c)).left_due_of ∙ all.left

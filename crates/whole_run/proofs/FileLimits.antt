@@ -15,7 +15,7 @@ use borrow.Author.Tests.{leb-true, eqb-true, not-false}
 use Rattle.laws.proofs.Booleans.{and_right}
 use Rattle.image.specs.Limits.{MAX_SOURCE}
 use Rattle.image.proofs.Versions.{stored_small}
-use Rattle.image.specs.Read.{header_fits, any_version, source_fits, read_all}
+use Rattle.image.specs.Read.{header_fits, any_version, source_fits, read_earlier}
 use Rattle.image.proofs.Accepted.{headed}
 use Rattle.rows.specs.Node.{Text, Node, Nodes, group, indent, indent_next, wrap_parent, comment}
 use Rattle.rows.specs.Node.{str, ascii, line, empty_line, line_or_space, if_wrap, call, ◌then◌}
@@ -225,11 +225,11 @@ rows_text_limited c s b store marks n few image e =
 -- ---- a file
 pub file_text_limited : FileTextLimited
 file_text_limited s b c h =
-    let g = (fmt_parsed_lem (read_all s b) s b).closed_in (layout_choice c) in
-    let l = laid_to (read_all s b) s b (layout_args s b c) in
+    let g = (fmt_parsed_lem (read_earlier s b) s b).closed_in (layout_choice c) in
+    let l = laid_to (read_earlier s b) s b (layout_args s b c) in
     let marks : List ℕ = replicate (marks_due s b c) 0 in
     let e = ap (λ (d : Drawn). length d.text) (g.drawn_due_of (render_choice c) render_fresh marks refl) in
-    let read = (laid_passed s b c file_rows h).read in
+    let read = (laid_passed s b c file_rows h).earlier in
     let m =
     rows_text_limited (render_choice c) s b l.rows marks l.state.cursor.row (omega (arith, g.row_due, rows_fit s b c file_rows h))
     (image_passes s b c.rule read)
@@ -239,7 +239,7 @@ file_text_limited s b c h =
 
 pub file_column_limited : FileColumnLimited
 file_column_limited k s b marks c bytes h =
-    let read = (laid_passed s b c file_rows h).read in
+    let read = (laid_passed s b c file_rows h).earlier in
     let z = sized k.rule s b (image_passes s b k.rule read) in
     let m = nodes_measure z bytes k.width k.rule c.rule (built s b c).nodes (closed_within (stood s b read).stood (keeps_waiting c.mode)).texts in
     omega (arith, column_most (page k s b) (laid s b c) marks, rows_fit s b c file_rows h)

@@ -10,7 +10,8 @@ use lib.ListN.{length}
 use borrow.Author.Tests.{ltb-false}
 use Rattle.refusals.specs.Refusals.{Refusal, or_else, first}
 use Rattle.refusals.proofs.Groups.{first_append, refuses_left, left_to, passes_left, passes_right, passes_line, passes_others, not_if}
-use Rattle.image.specs.Read.{read_all, read_refusal}
+use Rattle.image.specs.Read.{read_all, read_earlier, read_refusal}
+use Rattle.image.proofs.Earlier.{none_earlier}
 use Rattle.cut_rule.specs.States.{render_fresh}
 use Rattle.cut_rule.specs.Parts.{rule_line, width_line}
 use Rattle.whole_run.specs.Parts.{other_rule}
@@ -27,6 +28,7 @@ left_to_two os ps qs e =
 pub record FilePassed (s b : List ℕ) (c : FileChoice) : Type 0 where
   pub chosen : rule_line (other_rule b c.rule) c.rule ≡ None
   pub read : read_refusal (read_all s b) ≡ None
+  pub earlier : read_refusal (read_earlier s b) ≡ None
   pub moded : mode_line c ≡ None
   pub legal : width_line (render_choice c) render_fresh ≡ None
 
@@ -37,9 +39,11 @@ module _ (s b : List ℕ) (c : FileChoice) where
       let others : List (Option Refusal) = read_refusal (read_all s b) ∷ mode_line c ∷ widths in
       let reads = passes_others (rule_line (other_rule b c.rule) c.rule) others h in
       let modes = passes_others (read_refusal (read_all s b)) (mode_line c ∷ widths) reads in
+      let read = passes_line (read_refusal (read_all s b)) (mode_line c ∷ widths) reads in
       record {
         chosen = passes_line (rule_line (other_rule b c.rule) c.rule) others h;
-        read = passes_line (read_refusal (read_all s b)) (mode_line c ∷ widths) reads;
+        read = read;
+        earlier = none_earlier s b read;
         moded = passes_line (mode_line c) widths modes;
         legal = passes_line (width_line (render_choice c) render_fresh) [] (passes_others (mode_line c) widths modes);
       }

@@ -10,7 +10,8 @@ use lib.Dec.{eqb}
 use lib.ListN.{length, take, drop, length-map, length-drop}
 use lib.Seq.{take_all}
 use Rattle.laws.proofs.Booleans.{false_true}
-use Rattle.image.specs.Read.{Read, got, bad, Image, read_all, document_of, outcome, read_refusal}
+use Rattle.image.specs.Read.{Read, got, bad, Image, read_earlier, document_of, outcome, read_refusal}
+use Rattle.image.proofs.Earlier.{none_either}
 use Rattle.ast.specs.Syntax.{Declaration}
 use Rattle.acts.specs.Act.{St, Act}
 use Rattle.tree.specs.CommentList.{comments_of}
@@ -36,17 +37,17 @@ use Rattle.whole_run.proofs.Whole.{call_piece_lem}
 
 module _ (s b : List ℕ) where
   abbrev ds : List Declaration
-  ds = (accepted_tree b (read_all s b)).declarations
+  ds = (accepted_tree b (read_earlier s b)).declarations
 
-  pub list : read_refusal (read_all s b) ≡ None → Listed s b
-  list h = go (read_all s b) refl h
+  pub list : read_refusal (read_earlier s b) ≡ None → Listed s b
+  list h = go (read_earlier s b) refl h
     where
-      go : (r : Read Image) → read_all s b ≡ r → read_refusal r ≡ None → Listed s b
+      go : (r : Read Image) → read_earlier s b ≡ r → read_refusal r ≡ None → Listed s b
       go (bad n p) e h = let z : ◌≡◌ {A = ℕ} 0 1 = cc in absurd (omega arith)
       go (got i end) e h = accepted_listed s b (document_of i) (record { answer = ap outcome e })
 
   -- ---- one call
-  placed_all : (rows : ℕ) (q : LayoutArgs LayoutChoice) (z : LayoutState) → read_refusal (read_all s b) ≡ None
+  placed_all : (rows : ℕ) (q : LayoutArgs LayoutChoice) (z : LayoutState) → read_refusal (read_earlier s b) ≡ None
       → LayoutFits (length ds) (length (comments_of b)) (length s) rows q z
       → q.close ≡ true
       → q.choice.mode ≡ NEW_MODE
@@ -55,11 +56,11 @@ module _ (s b : List ℕ) where
       let c = z.cursor in
       let from : St = record { number = c.number; pos = c.position; placed = c.placed } in
       let part = take (q.stop - z.declaration) (drop z.declaration ds) in
-      let act : Bool → Bool → Act = λ x y. call_rule (given s b) (accepted_tree b (read_all s b)) (not z.begun) part (eqb z.declaration 0) x y in
-      let due = call_piece_lem (read_all s b) s b z q fits.stop.from fits.stop.to in
+      let act : Bool → Bool → Act = λ x y. call_rule (given s b) (accepted_tree b (read_earlier s b)) (not z.begun) part (eqb z.declaration 0) x y in
+      let due = call_piece_lem (read_earlier s b) s b z q fits.stop.from fits.stop.to in
       let w : AtFoot s b (act q.close (keeps_waiting q.choice.mode) from) =
       subst₂ (λ (x y : Bool). AtFoot s b (act x y from)) (sym closes) (sym (ap keeps_waiting new))
-      (call_places (list h) (accepted_tree b (read_all s b)) (not z.begun) part (eqb z.declaration 0) from fits.places.placed)
+      (call_places (list h) (accepted_tree b (read_earlier s b)) (not z.begun) part (eqb z.declaration 0) from fits.places.placed)
       in
       let placed : (laid_of (parts_of s b) z q).state.cursor.placed ≡ length (comments_of b) = ap (λ (p : Piece). p.cursor.placed) due ∙ w.placed in
       record {
@@ -79,7 +80,7 @@ module _ (s b : List ℕ) where
       go (Some r) e = h
       go None e =
           let t = layout_told (parts_of s b) q w.layout_state_of w.store e in
-          record { none_left = λ x y. ap Some (placed_all (rows_in w.store) q w.layout_state_of t.image t.fits x y).left }
+          record { none_left = λ x y. ap Some (placed_all (rows_in w.store) q w.layout_state_of (none_either q.archive s b t.image) t.fits x y).left }
   after w (render_call q) h = go (refusal (rules_of s b) w (render_call q))
     where
       go : (o : Option Refusal) → NoneLeft (unless o w (accepted (rules_of s b) w (render_call q)))
@@ -102,7 +103,7 @@ closed_holds_all s b store₀ marks₀ calls closed new =
     let left = (after_all s b calls w₀ (record { none_left = λ x y. false_true x })).none_left closed new in
     let same = layout_only r calls w₀ w₀ (record { store = refl; state = refl; left = refl }) in
     let placed = (run r w₀ (layouts r calls)).layout_state_of.cursor.placed in
-    let kept = (rules_cut (read_all s b) s b store₀ marks₀ (layouts r calls) (none_read r calls w₀)).comments 0 (sym same.left ∙ left) in
+    let kept = (rules_cut (read_earlier s b) s b store₀ marks₀ (layouts r calls) (none_read r calls w₀)).comments 0 (sym same.left ∙ left) in
     record {
       all =
           ap₂ (λ (m : List ℕ) (z : LayoutState). comments_in m z.cursor.row) same.store same.state

@@ -42,9 +42,9 @@ counts rule s b a c =
 
 pub layout_parts : (r : Read Image) (s b : List ℕ) → LayoutPartLaws (parts_by r s b)
 layout_parts r s b = record {
-  shebang_counts = λ e k c. counts k.rule s b (shebang_rule (given s b) (accepted_tree b r).shebang) c;
-  declaration_counts = λ e k n c l. counts k.rule s b (declaration_act s b n (nth (accepted_tree b r).declarations n)) c;
-  final_counts = λ e k c. counts k.rule s b (closing (given s b) (accepted_tree b r) (keeps_waiting k.mode)) c;
+  shebang_counts = λ k c. counts k.rule s b (shebang_rule (given s b) (accepted_tree b r).shebang) c;
+  declaration_counts = λ k n c l. counts k.rule s b (declaration_act s b n (nth (accepted_tree b r).declarations n)) c;
+  final_counts = λ k c. counts k.rule s b (closing (given s b) (accepted_tree b r) (keeps_waiting k.mode)) c;
 }
 
 -- ---- the comments among the rows of nodes
@@ -124,8 +124,8 @@ module _ (s b : List ℕ) where
       let t = accepted_tree b r in
       record {
         all_listed = sym (length-map (comments_of b) _);
-        shebang_places = λ e k c h. places k.rule (shebang_rule g t.shebang) c (places_shebang g t.shebang) h;
+        shebang_places = λ k c h. places k.rule (shebang_rule g t.shebang) c (places_shebang g t.shebang) h;
         declaration_places =
-            λ e k n c l h. places k.rule (declaration_act s b n (nth t.declarations n)) c (places_one n (nth t.declarations n)) h;
-        final_places = λ e k c h. places k.rule (closing g t (keeps_waiting k.mode)) c (places_closing g t (keeps_waiting k.mode)) h;
+            λ k n c l h. places k.rule (declaration_act s b n (nth t.declarations n)) c (places_one n (nth t.declarations n)) h;
+        final_places = λ k c h. places k.rule (closing g t (keeps_waiting k.mode)) c (places_closing g t (keeps_waiting k.mode)) h;
       }

@@ -10,7 +10,7 @@ use native.Mathlib.Omega.{arith}
 use native.Mathlib.Nat.{zero-add}
 use lib.ListN.{length, get_or, take, drop, take-append-drop}
 use Rattle.text.specs.Utf8.{well_formed}
-use Rattle.image.specs.Read.{Read, got, bad, Image, any_version, read_image, read_all, document_of, outcome, read_refusal, Accepts}
+use Rattle.image.specs.Read.{Read, got, bad, Image, any_version, read_image, read_earlier, document_of, outcome, read_refusal, Accepts}
 use Rattle.image.specs.declared.Document.{Document}
 use Rattle.image.proofs.Accepted.{read_inside, accepted}
 use Rattle.ast.specs.Syntax.{SyntaxTree}
@@ -36,17 +36,17 @@ module _ (s b : List ℕ) where
   g = given s b
 
   -- ---- the tree of an accepted image stands in it
-  reads_image : length s ≤ 65536 → well_formed s ≡ true → read_all s b ≡ read_image any_version false s b
+  reads_image : length s ≤ 65536 → well_formed s ≡ true → read_earlier s b ≡ read_image any_version false s b
   reads_image = read_inside any_version false s b
 
   -- an accepted source and image have the tree at the answered offset
-  pub standing : (d : Document) → Accepts s b d → Stands g (accepted_tree b (read_all s b)) d.tree
+  pub standing : (d : Document) → Accepts s b d → Stands g (accepted_tree b (read_earlier s b)) d.tree
   standing d h =
       let a = accepted s b d h in
       let c = a.root in
       let n = d.comments in
       let at = d.tree in
-      let same : read_all s b ≡ got (record { comments = n; tree = c.tree; at = at }) (length b) = reads_image a.short a.well ∙ c.whole in
+      let same : read_earlier s b ≡ got (record { comments = n; tree = c.tree; at = at }) (length b) = reads_image a.short a.well ∙ c.whole in
       subst (λ (t : SyntaxTree). Stands g t at) (sym (ap (accepted_tree b) same)) (stands any_version false s b n at a.well c)
 
   -- where the tree of what was read stands
@@ -54,10 +54,10 @@ module _ (s b : List ℕ) where
     pub at : ℕ
     pub stood : Stands g (accepted_tree b r) at
 
-  pub stood : read_refusal (read_all s b) ≡ None → Stood (read_all s b)
-  stood h = go (read_all s b) refl h
+  pub stood : read_refusal (read_earlier s b) ≡ None → Stood (read_earlier s b)
+  stood h = go (read_earlier s b) refl h
     where
-      go : (r : Read Image) → read_all s b ≡ r → read_refusal r ≡ None → Stood (read_all s b)
+      go : (r : Read Image) → read_earlier s b ≡ r → read_refusal r ≡ None → Stood (read_earlier s b)
       go (bad n p) e h = let z : ◌≡◌ {A = ℕ} 0 1 = cc in absurd (omega arith)
       go (got i end) e h = record { at = i.at; stood = standing (document_of i) (record { answer = ap outcome e }) }
 
@@ -93,5 +93,5 @@ module _ (s b : List ℕ) where
         closed = λ k. limited k.rule r a _ _ (f.closed_in k) (closed_within a.stood (keeps_waiting k.mode));
       }
 
-  pub all_limited : read_refusal (read_all s b) ≡ None → AllLimited (read_all s b) s b (accepted_tree b (read_all s b))
-  all_limited h = limited_by (read_all s b) (stood h)
+  pub all_limited : read_refusal (read_earlier s b) ≡ None → AllLimited (read_earlier s b) s b (accepted_tree b (read_earlier s b))
+  all_limited h = limited_by (read_earlier s b) (stood h)

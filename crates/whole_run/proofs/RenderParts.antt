@@ -107,7 +107,8 @@ module _ (s b : List ℕ) where
       let row = sym there.row in
       let pen = sym there.pen in
       ap (λ (c : RenderChoice). drawn s b z (record { stop = q.stop; choice = c }) marks store) (sym a.same)
-      ∙ draw_on z p q.stop marks store (omega (arith, start)) a.not_past (subst (λ (i : ℕ). wrong_place_by p.choice.rule s b store i p.stop ≡ None) (sym start) e) g
+      ∙ draw_on z p q.stop marks store (omega (arith, start)) a.not_past
+      (subst (λ (i : ℕ). wrong_place_by p.choice.rule s b store i p.stop ≡ None) (sym start) e) g
       ∙ (λ i.
       then_drawn (drawn s b z p marks store)
       (λ ms. drawn_by (render_nodes (page (a.same i) s b) (nodes_at (view_of store) (row i) q.stop) true (renderer_of (pen i) ms))))

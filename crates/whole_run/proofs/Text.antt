@@ -9,7 +9,7 @@ use native.Mathlib.Omega.{arith}
 use native.Mathlib.Nat.{zero-add}
 use lib.ListN.{length, take, drop, replicate, length-map, length-drop}
 use lib.Seq.{take_all, take-length, take-append_seam}
-use Rattle.image.specs.Read.{read_all, read_refusal}
+use Rattle.image.specs.Read.{read_earlier, read_refusal}
 use Rattle.ast.specs.Syntax.{Declaration}
 use Rattle.rows.specs.Places.{PLACES}
 use Rattle.rows.specs.Node.{Text, Nodes, none as no_nodes, join}
@@ -90,7 +90,8 @@ module _ (s b : List ℕ) where
       these = pieces (built s b c).nodes;
       made =
           subst (λ (ps : List Part). MadeOf (text_bytes s b) ps (drawn_due s b c).text) (laid_pieces c.rule s b (built s b c).nodes)
-          (drawn_made (file_laid s b c) (laid_chosen c.rule s b (built s b c).nodes said_whole.chosen) (render_choice c) render_fresh.pen (replicate (marks_due s b c) 0));
+          (drawn_made (file_laid s b c) (laid_chosen c.rule s b (built s b c).nodes said_whole.chosen) (render_choice c) render_fresh.pen
+          (replicate (marks_due s b c) 0));
       comments = same_comments (built s b c).nodes said_whole.chosen ∙ in_order (given s b) (tree s b) (keeps_waiting c.mode);
       others = said_whole.same;
     }
@@ -98,7 +99,7 @@ module _ (s b : List ℕ) where
     within : (built s b c).placed ≤ length (comments_of b)
     within = ((places_whole (given s b) (tree s b) (keeps_waiting c.mode)).from fresh (omega arith)).within
 
-    all_placed : read_refusal (read_all s b) ≡ None → c.mode ≡ NEW_MODE → (built s b c).placed ≡ length (listed s b)
+    all_placed : read_refusal (read_earlier s b) ≡ None → c.mode ≡ NEW_MODE → (built s b c).placed ≡ length (listed s b)
     all_placed h new =
         ap (λ (m : ℕ). (built s b (record { width = c.width; mode = m; rule = c.rule })).placed) new
         ∙ (call_places (list s b h) (tree s b) true ds true fresh (omega arith)).placed
@@ -124,10 +125,10 @@ module _ (s b : List ℕ) where
     abbrev laid : Out
     laid = act fresh
 
-    given_due : Gives q.choice.rule s b laid (laid_to (read_all s b) s b q)
+    given_due : Gives q.choice.rule s b laid (laid_to (read_earlier s b) s b q)
     given_due =
-        let e = call_piece_lem (read_all s b) s b layout_fresh q (omega arith) k in
-        gives (read_all s b) s b q act (ap (λ (p : Piece). p.rows) e) (ap (λ (p : Piece). p.cursor) e)
+        let e = call_piece_lem (read_earlier s b) s b layout_fresh q (omega arith) k in
+        gives (read_earlier s b) s b q act (ap (λ (p : Piece). p.rows) e) (ap (λ (p : Piece). p.cursor) e)
 
     said : Says laid (shebang_tokens b (tree s b).shebang & declarations_tokens part)
     said = call_says_its_part (given s b) (tree s b) true part true q.close (keeps_waiting q.choice.mode) fresh
@@ -138,7 +139,7 @@ module _ (s b : List ℕ) where
         ((places_call (given s b) (tree s b) true part true q.close (keeps_waiting q.choice.mode)).from fresh (omega arith)).same
         ∙ ap (λ (i : ℕ). take i (listed s b)) m
 
-    laid_nodes : LaidNodes (laid_to (read_all s b) s b q)
+    laid_nodes : LaidNodes (laid_to (read_earlier s b) s b q)
     laid_nodes =
         let ns = laid_by q.choice.rule s b laid.nodes in
         let same = laid_pieces q.choice.rule s b laid.nodes in
@@ -146,16 +147,18 @@ module _ (s b : List ℕ) where
         record {
           nodes = ns;
           read =
-              ap₂ (λ (x : List ℕ) (n : ℕ). nodes_at (view_of x) 0 n) given_due.rows_due_of (given_due.row_due ∙ sym (laid_size q.choice.rule s b laid.nodes) ∙ sym (zero-add (sizes ns)))
+              ap₂ (λ (x : List ℕ) (n : ℕ). nodes_at (view_of x) 0 n) given_due.rows_due_of
+              (given_due.row_due ∙ sym (laid_size q.choice.rule s b laid.nodes) ∙ sym (zero-add (sizes ns)))
               ∙ flattened ns (rows ns 0) 0 (take-length (rows ns 0));
-          size = omega (arith, given_due.row_due, ap (λ (x : List ℕ). length x) given_due.rows_due_of, length_rows ns 0, laid_size q.choice.rule s b laid.nodes);
+          size =
+              omega (arith, given_due.row_due, ap (λ (x : List ℕ). length x) given_due.rows_due_of, length_rows ns 0, laid_size q.choice.rule s b laid.nodes);
           chosen = laid_chosen q.choice.rule s b laid.nodes said.chosen;
           comments = ap comments_among same ∙ same_comments laid.nodes said.chosen ∙ placed ∙ ap (λ (n : ℕ). take n (listed s b)) (sym given_due.placed_due);
           others = ap tokens_among same ∙ said.same ∙ ap (λ (n : ℕ). shebang_tokens b (tree s b).shebang & declarations_tokens (take n ds)) stop;
         }
 
   due_nodes : (o : Option (LayoutArgs LayoutChoice))
-      → LaidFits (parts_of s b) (layout_parts (read_all s b) s b) (render_parts s b (read_all s b)) o → LaidNodes (layout_due (rules_of s b) o)
+      → LaidFits (parts_of s b) (layout_parts (read_earlier s b) s b) (render_parts s b (read_earlier s b)) o → LaidNodes (layout_due (rules_of s b) o)
   unfolding pieces comments_among tokens_among CommasChosen declarations_tokens
   due_nodes None k = record { nodes = no_nodes; read = nodes_none _ 0 0 (omega arith); size = refl; chosen = tt; comments = refl; others = refl }
   due_nodes (Some q) k = laid_nodes q k.to
@@ -168,7 +171,7 @@ module _ (s b : List ℕ) where
     made : CommasChosen (nodes_at (view_of store) 0 d.state.row) → MadeOf (text_bytes s b) (pieces_between store 0 d.state.row) d.text
 
   shown_nodes : (store : List ℕ) (d : Option (RenderTo RenderChoice))
-      → RenderedRight (parts_of s b) (layout_parts (read_all s b) s b) (render_parts s b (read_all s b)) store d
+      → RenderedRight (parts_of s b) (layout_parts (read_earlier s b) s b) (render_parts s b (read_earlier s b)) store d
       → ShownNodes store (render_due (rules_of s b) store d)
   unfolding pieces
   shown_nodes store None k = record {
@@ -238,7 +241,7 @@ module _ (s b : List ℕ) where
         }
 
   -- closed, the program so far is the whole
-  all_said : (o : Option (LayoutArgs LayoutChoice)) → LaidFits (parts_of s b) (layout_parts (read_all s b) s b) (render_parts s b (read_all s b)) o
+  all_said : (o : Option (LayoutArgs LayoutChoice)) → LaidFits (parts_of s b) (layout_parts (read_earlier s b) s b) (render_parts s b (read_earlier s b)) o
       → (layout_due (rules_of s b) o).state.closed ≡ true
       → program_to s b (layout_due (rules_of s b) o).state ≡ tokens_of b (tree s b)
   all_said None k h = let z : ◌≡◌ {A = ℕ} 0 1 = cc in absurd (omega arith)
@@ -270,8 +273,8 @@ calls_keep_the_text s b store₀ marks₀ calls h =
     let R = rules_of s b in
     let w = run R (start R store₀ marks₀) calls in
     let f = plain R store₀ marks₀ (at_first R) calls in
-    let cut = rules_cut (read_all s b) s b store₀ marks₀ calls h in
-    let k = came_to (parts_of s b) (layout_parts (read_all s b) s b) (render_parts s b (read_all s b)) store₀ marks₀ calls h in
+    let cut = rules_cut (read_earlier s b) s b store₀ marks₀ calls h in
+    let k = came_to (parts_of s b) (layout_parts (read_earlier s b) s b) (render_parts s b (read_earlier s b)) store₀ marks₀ calls h in
     let x : SoFar s b w =
     subst (λ (v : Carried R). SoFar s b v) (sym cut.same)
     (so_far s b store₀ marks₀ f (due_nodes s b f.laid_to_of k.laid) (shown_nodes s b (laid_due R f).rows f.rendered_to k.rendered))

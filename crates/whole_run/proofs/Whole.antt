@@ -230,8 +230,8 @@ module _ (r : Read Image) (s b : List ℕ) where
           ∙ ap (λ (xs : List Declaration). and_then (act_piece k.rule s b (up_to g tree xs) start) (act_piece k.rule s b last)) (take-length ds)
           ∙ ap (λ (p : Piece). and_then p (act_piece k.rule s b last)) (piece_then k.rule s b one rule start)
           ∙ then_then (act_piece k.rule s b one start) (act_piece k.rule s b rule) (act_piece k.rule s b last)
-          ∙ then_at (act_piece k.rule s b one start) (λ c. and_then (act_piece k.rule s b rule c) (act_piece k.rule s b last)) (act_piece k.rule s b (rule ⨟ last))
-          (sym (piece_then k.rule s b rule last (act_piece k.rule s b one start).cursor))
+          ∙ then_at (act_piece k.rule s b one start) (λ c. and_then (act_piece k.rule s b rule c) (act_piece k.rule s b last))
+          (act_piece k.rule s b (rule ⨟ last)) (sym (piece_then k.rule s b rule last (act_piece k.rule s b one start).cursor))
           ∙ sym (piece_then k.rule s b one (rule ⨟ last) start)
 
   pub fmt_parsed_lem : FmtParsed r s b tree

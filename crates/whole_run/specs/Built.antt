@@ -3,7 +3,7 @@ use Rattle.std.specs.Prelude.{true, List, ℕ, replicate}
 use Rattle.widths.specs.Rules.{SUPPLIED}
 use Rattle.rows.specs.Node.{Nodes}
 use Rattle.node_widths.specs.Summed.{laid_nodes}
-use Rattle.image.specs.Read.{read_all}
+use Rattle.image.specs.Read.{read_earlier}
 use Rattle.ast.specs.Syntax.{Declaration, SyntaxTree}
 use Rattle.rows.specs.Rows.{sizes, rows}
 use Rattle.marks.specs.Marks.{marks_needed}
@@ -35,9 +35,9 @@ abbrev pub render_choice : FileChoice → RenderChoice
 render_choice c = record { width = c.width; rule = c.rule }
 
 module _ (s b : List ℕ) where
-  -- the tree that was read, and its declarations
+  -- the tree that was read, by the strict rule or the earlier one, and its declarations
   abbrev pub tree : SyntaxTree
-  tree = accepted_tree b (read_all s b)
+  tree = accepted_tree b (read_earlier s b)
 
   abbrev pub declared : List Declaration
   declared = tree.declarations

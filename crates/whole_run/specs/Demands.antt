@@ -1,7 +1,7 @@
 -- What is claimed of the rules; proofs/Demands.antt proves it, and nothing is assumed. The demands of the functions, by what they promise, are
 -- in crates/demands/specs; they rest on these. The marked edges are in Edges.antt, a whole file in File.antt.
-use Rattle.std.specs.Prelude.{◌≡◌, true, false, List, ℕ, ◌-◌, ◌≤◌, length, take, None}
-use Rattle.image.specs.Read.{Read, Image, read_all, read_refusal}
+use Rattle.std.specs.Prelude.{◌≡◌, Bool, true, false, List, ℕ, ◌-◌, ◌≤◌, length, take, None}
+use Rattle.image.specs.Read.{Read, Image, read_all, read_earlier, read_refusal}
 use Rattle.ast.specs.Syntax.{SyntaxTree}
 use Rattle.rows.specs.Limits.{MAX_ROWS, MAX_NUMBER}
 use Rattle.rows.specs.Rows.{sizes, rows}
@@ -15,6 +15,7 @@ use Rattle.node_widths.specs.Summed.{laid_nodes}
 use Rattle.renderer_rules.specs.Check.{wrong_place_by}
 use Rattle.cut_rule.specs.Rules.{LayoutArgs, LayoutResult, Rules}
 use Rattle.cut_rule.specs.Run.{Call, start}
+use Rattle.cut_rule.specs.Entries.{layout_answer, layout_store}
 use Rattle.cut_rule.specs.Plain.{AllReadLaid}
 use Rattle.cut_rule.specs.CutRule.{CutRule}
 use Rattle.cut_rule.specs.States.{LayoutChoice, RenderChoice, LayoutState, RenderState, layout_fresh, OLD_MODE}
@@ -26,7 +27,7 @@ abbrev pub rules_by : Read Image → List ℕ → List ℕ → Rules
 rules_by r s b = rules (parts_by r s b)
 
 abbrev pub rules_of : List ℕ → List ℕ → Rules
-rules_of s b = rules_by (read_all s b) s b
+rules_of s b = rules_by (read_earlier s b) s b
 
 -- ---- the cut rule
 -- The cut rule: for every source and image, whatever was read of it, whatever store and marks held at first, and every list of calls in which no
@@ -36,6 +37,22 @@ RulesCut =
     (r : Read Image) (s b store₀ marks₀ : List ℕ) (calls : List (Call (rules_by r s b)))
     → AllReadLaid (rules_by r s b) (start (rules_by r s b) store₀ marks₀) calls
     → CutRule (rules_by r s b) (listed s b) store₀ marks₀ calls
+
+-- ---- the archive entry
+-- the arguments of a layout call, by whether it is the archive entry's
+abbrev pub asked : Bool → ℕ → Bool → LayoutChoice → LayoutArgs LayoutChoice
+asked archive stop close k = record { stop = stop; close = close; choice = k; archive = archive }
+
+-- "an archive entry reads by the earlier rule and answers as before": what it answers and leaves of a source and an image that the strict rule
+-- accepts is what the other entry does, from every state and in every store.
+pub record SameByEntry (s b store : List ℕ) (z : LayoutState) (q : Bool → LayoutArgs LayoutChoice) : Type 0 where
+  pub answer : layout_answer (rules_of s b) (q true) z store ≡ layout_answer (rules_of s b) (q false) z store
+  pub store_left_of : layout_store (rules_of s b) (q true) z store ≡ layout_store (rules_of s b) (q false) z store
+
+abbrev pub EntriesAgree : Type 0
+EntriesAgree =
+    (s b store : List ℕ) (z : LayoutState) (stop : ℕ) (close : Bool) (k : LayoutChoice) → read_refusal (read_all s b) ≡ None
+    → SameByEntry s b store z (λ archive. asked archive stop close k)
 
 -- ---- what is due at a stop
 -- what layout gives is what a step of the layout rules gives: its nodes as rows, its numbers, its position, the comments that it placed; and
@@ -57,10 +74,10 @@ laid_to r s b q = laid_of (parts_by r s b) layout_fresh q
 
 -- the arguments that name a stop, by what is chosen, and close there or not
 abbrev pub stopping_at : LayoutChoice → ℕ → LayoutArgs LayoutChoice
-stopping_at k n = record { stop = n; close = false; choice = k }
+stopping_at k n = asked false n false k
 
 abbrev pub closing_at : LayoutChoice → ℕ → LayoutArgs LayoutChoice
-closing_at k n = record { stop = n; close = true; choice = k }
+closing_at k n = asked false n true k
 
 -- "The rows and state due at a stop are those `fmt_parsed` has when its loop reaches that declaration", whatever the mode, and closed in the old
 -- mode, those that it has in the end. Closed in the new mode, the same, with the comments that wait before the final `Line`. (Of an image that
@@ -76,7 +93,7 @@ pub record FmtParsed (r : Read Image) (s b : List ℕ) (t : SyntaxTree) : Type 0
 abbrev pub DueIsFmtParsed : Type 0
 DueIsFmtParsed = (r : Read Image) (s b : List ℕ) → FmtParsed r s b (accepted_tree b r)
 
--- ---- what is laid out of an accepted image
+-- ---- what is laid out of an image that is accepted, by the earlier rule or by both
 -- It is within document 01's limits: 11 finds nothing wrong with its rows, by no rule ("That no accepted tree yields deeper rows is proved"), and 12 none of
 -- its numbers too large.
 pub record Limited (s b : List ℕ) (l : LayoutResult LayoutState) : Type 0 where
@@ -91,4 +108,5 @@ pub record AllLimited (r : Read Image) (s b : List ℕ) (t : SyntaxTree) : Type 
   pub closed : (k : LayoutChoice) → Limited s b (laid_to r s b (closing_at k (length t.declarations)))
 
 abbrev pub LaidWithinLimits : Type 0
-LaidWithinLimits = (s b : List ℕ) → read_refusal (read_all s b) ≡ None → AllLimited (read_all s b) s b (accepted_tree b (read_all s b))
+LaidWithinLimits =
+    (s b : List ℕ) → read_refusal (read_earlier s b) ≡ None → AllLimited (read_earlier s b) s b (accepted_tree b (read_earlier s b))

@@ -12,6 +12,7 @@ use Rattle.rows.specs.View.{cell}
 use Rattle.tree.specs.CommentList.{span}
 use Rattle.cut_rule.specs.Run.{layout_call, render_call, Carried, start, run}
 use Rattle.cut_rule.specs.Limits.{REFERENCE_WIDTH}
+use Rattle.cut_rule.specs.Rules.{RenderTo}
 use Rattle.cut_rule.specs.States.{RenderChoice, layout_fresh, OLD_MODE, NEW_MODE}
 use Rattle.renderer_rules.specs.Renderer.{Renderer, render_node}
 use Rattle.whole_run.specs.Parts.{page}
@@ -82,11 +83,18 @@ renders_at width e =
       store = rows e.nodes 0;
       marks = 0 ∷ 0 ∷ [];
       layout_state_of = layout_fresh;
-      render_state_of = record { pen = record { indent = e.indent; next_indent = 0; column = record { 0 = e.column } }; in_use = 0; row = 0; width = 0; rule = 0 };
+      render_state_of = record {
+        pen = record { indent = e.indent; next_indent = 0; column = record { 0 = e.column } };
+        in_use = 0;
+        row = 0;
+        width = 0;
+        rule = 0;
+      };
       text = [];
       left = None;
     } in
-    seen e.source no_body (run r w (render_call (record { to = record { stop = sizes e.nodes; choice = record { width = width; rule = SUPPLIED } }; room = 300 }) ∷ []))
+    let to : RenderTo RenderChoice = record { stop = sizes e.nodes; choice = record { width = width; rule = SUPPLIED } } in
+    seen e.source no_body (run r w (render_call (record { to = to; room = 300 }) ∷ []))
 
 -- "two bytes, the number of comments; for each, start and end, four bytes each; one tree record"
 abbrev pub pairs : List Span → List ℕ

@@ -1,6 +1,6 @@
 -- Closing in the new mode: "Our house rule now keeps them all" (document 02, 4). proofs/Foot.antt proves both claims, and nothing is assumed.
 use Rattle.std.specs.Prelude.{◌≡◌, true, false, List, ℕ, length, None, Some}
-use Rattle.image.specs.Read.{read_all, read_refusal}
+use Rattle.image.specs.Read.{read_earlier, read_refusal}
 use Rattle.refusals.specs.Refusals.{any}
 use Rattle.cut_rule.specs.Rules.{LayoutArgs, LayoutResult}
 use Rattle.cut_rule.specs.Run.{Call, Carried, start, run}
@@ -16,11 +16,11 @@ pub record AllPlaced (s b : List ℕ) (l : LayoutResult LayoutState) : Type 0 wh
   pub position : l.state.cursor.position ≡ length s
   pub left : l.left ≡ 0
 
--- "closing places every waiting comment": of each source and image that are accepted, from each state that 12 lets pass
+-- "closing places every waiting comment": of each source and image that are accepted by either rule, from each state that 12 lets pass
 abbrev pub ClosingPlacesAll : Type 0
 ClosingPlacesAll =
     (s b store : List ℕ) (q : LayoutArgs LayoutChoice) (z : LayoutState)
-    → read_refusal (read_all s b) ≡ None
+    → read_refusal (read_earlier s b) ≡ None
     → any (layout_tests (parts_of s b) q z store) ≡ false
     → q.close ≡ true
     → q.choice.mode ≡ NEW_MODE

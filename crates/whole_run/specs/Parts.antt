@@ -3,7 +3,7 @@
 use Rattle.std.specs.Prelude.{Bool, true, cond, not, ◌&&◌, List, [], ◌∷◌, map, ℕ, ◌+◌, ◌-◌, eqb, length, Option, None, Some}
 use Rattle.text.specs.Utf8.{ill_formed}
 use Rattle.text.specs.Space.{trim_end}
-use Rattle.image.specs.Read.{Read, got, bad, Image, version, header_fits, any_version, source_fits, read_all, read_refusal}
+use Rattle.image.specs.Read.{Read, got, bad, Image, version, header_fits, any_version, source_fits, read_all, read_earlier, read_refusal}
 use Rattle.ast.specs.Syntax.{Declaration, SyntaxTree}
 use Rattle.tree.specs.Records.{syntax_tree}
 use Rattle.rows.specs.Rows.{sizes, rows}
@@ -92,7 +92,8 @@ abbrev pub widest_drawn : List ℕ → List ℕ → RenderState → RenderTo Ren
 widest_drawn s b z q marks store = (rendering s b z q marks store).widest
 
 -- ---- the whole
--- by what was read of the image: another way to read is another r
+-- By what the earlier rule read of the image, whose tree is laid out: another way to read is another r. What the strict rule refuses it
+-- refuses besides; what it accepts it accepts with the same tree (`StrictIsEarlier`).
 abbrev pub parts_by : Read Image → List ℕ → List ℕ → RuleParts
 parts_by r s b =
     let tree = accepted_tree b r in
@@ -101,7 +102,7 @@ parts_by r s b =
       declarations = length tree.declarations;
       comments = length (comments_of b);
       other_rule = other_rule b;
-      layout_image = read_refusal r;
+      layout_image = λ archive. cond archive (read_refusal r) (read_refusal (read_all s b));
       render_image_of = λ c. render_image c.rule s b;
       shebang = λ k. act_piece k.rule s b (shebang_rule (given s b) tree.shebang);
       declaration = λ k n. act_piece k.rule s b (declaration_act s b n (nth tree.declarations n));
@@ -112,4 +113,4 @@ parts_by r s b =
     }
 
 abbrev pub parts_of : List ℕ → List ℕ → RuleParts
-parts_of s b = parts_by (read_all s b) s b
+parts_of s b = parts_by (read_earlier s b) s b

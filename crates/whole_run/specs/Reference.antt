@@ -134,4 +134,5 @@ abbrev pub ReferenceHolds : Type 0
 ReferenceHolds =
     (s b : List ℕ)
     → FileAsBefore s b
-    × ((stop room : ℕ) (z : RenderState) (store marks : List ℕ) → (z.width ≡ 0) ⊎ (z.width ≡ REFERENCE_WIDTH) → (z.rule ≡ 0) ⊎ (z.rule ≡ SUPPLIED) → CallAsBefore s b stop room z store marks)
+    × ((stop room : ℕ) (z : RenderState) (store marks : List ℕ) → (z.width ≡ 0) ⊎ (z.width ≡ REFERENCE_WIDTH)
+    → (z.rule ≡ 0) ⊎ (z.rule ≡ SUPPLIED) → CallAsBefore s b stop room z store marks)

@@ -2,7 +2,7 @@
 -- mode and at every width, of a whole file and of every list of calls, by the rules; crates/demands/specs/Text.antt says it of the functions.
 -- proofs/Text.antt proves the claims. What a program is written of: `tokens_of` (crates/layout_facts/specs/Tokens.antt).
 use Rattle.std.specs.Prelude.{◌≡◌, true, cond, List, [], ◌++◌, ℕ, ◌-◌, length, take, None}
-use Rattle.image.specs.Read.{read_all, read_refusal}
+use Rattle.image.specs.Read.{read_earlier, read_refusal}
 use Rattle.rows.specs.View.{view_of, nodes_at}
 use Rattle.layout_facts.specs.Tokens.{◌&◌, shebang_tokens, declarations_tokens, tokens_of}
 use Rattle.renderer_rules.specs.Page.{text_bytes}
@@ -44,7 +44,7 @@ TextIsTheProgram = (s b : List ℕ) (c : FileChoice) → IsProgram s b (built s 
 
 -- in the new mode, of a file that is accepted, these are all
 abbrev pub NewModePlacesAll : Type 0
-NewModePlacesAll = (s b : List ℕ) (c : FileChoice) → read_refusal (read_all s b) ≡ None → c.mode ≡ NEW_MODE → (built s b c).placed ≡ length (listed s b)
+NewModePlacesAll = (s b : List ℕ) (c : FileChoice) → read_refusal (read_earlier s b) ≡ None → c.mode ≡ NEW_MODE → (built s b c).placed ≡ length (listed s b)
 
 -- As a caller of `format_file` sees it, by the answer alone: the bytes that it wrote are the program and all comments but the last so many,
 -- those that it told to be left.

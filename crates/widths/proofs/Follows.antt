@@ -36,7 +36,8 @@ none_before w n (e ∷ es) c h b =
     go l more true = rw (within_below (first e) (last e) c l) more
     go l more false = more
 
-pub taken_apart : (n : ℕ) (es : List Entry) (c : ℕ) → ascends n es ≡ true → two_or_none es ≡ true → table_width es c ≡ code_width (ranges_of 2 es) (ranges_of 0 es) c
+pub taken_apart : (n : ℕ) (es : List Entry) (c : ℕ) → ascends n es ≡ true → two_or_none es ≡ true
+    → table_width es c ≡ code_width (ranges_of 2 es) (ranges_of 0 es) c
 unfolding table_width code_width ranges_of one_of two_or_none
 taken_apart n [] c h k = refl
 taken_apart n (e ∷ es) c h k =

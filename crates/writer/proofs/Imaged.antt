@@ -92,21 +92,21 @@ tree_size l at x end h =
 
 -- ---- what is measured
 module _ (l : List ℕ) where
-  pub contents_pairs : (n p : ℕ) → comments_from l MAX_COMMENTS 0 ≡ bad n p → contents_from l ≡ bad n p
+  pub contents_pairs : (n p : ℕ) → comments_from l MAX_COMMENTS 0 0 ≡ bad n p → contents_from l ≡ bad n p
   unfolding contents_from
   contents_pairs n p e = rw e
 
-  pub contents_tree : (cs : List Span) (at n p : ℕ) → comments_from l MAX_COMMENTS 0 ≡ got cs at → record_from l MAX_RECORDS_DEEP TREE at ≡ bad n p
+  pub contents_tree : (cs : List Span) (at n p : ℕ) → comments_from l MAX_COMMENTS 0 0 ≡ got cs at → record_from l MAX_RECORDS_DEEP TREE at ≡ bad n p
       → contents_from l ≡ bad n p
   unfolding contents_from
   contents_tree cs at n p e f = rw (e, f)
 
-  pub contents_spare : (cs : List Span) (at : ℕ) (x : Plain) (end : ℕ) → comments_from l MAX_COMMENTS 0 ≡ got cs at
+  pub contents_spare : (cs : List Span) (at : ℕ) (x : Plain) (end : ℕ) → comments_from l MAX_COMMENTS 0 0 ≡ got cs at
       → record_from l MAX_RECORDS_DEEP TREE at ≡ got x end → end < length l → contents_from l ≡ bad 16 end
   unfolding contents_from
   contents_spare cs at x end e f h = rw (e, f, lt-ltb end (length l) h)
 
-  contents_whole : (cs : List Span) (at : ℕ) (x : Plain) (end : ℕ) → comments_from l MAX_COMMENTS 0 ≡ got cs at
+  contents_whole : (cs : List Span) (at : ℕ) (x : Plain) (end : ℕ) → comments_from l MAX_COMMENTS 0 0 ≡ got cs at
       → record_from l MAX_RECORDS_DEEP TREE at ≡ got x end → length l ≤ end → contents_from l ≡ got (record { comments = cs; tree = x }) end
   unfolding contents_from
   contents_whole cs at x end e f h = rw (e, f, le-ltb end (length l) h)
@@ -115,11 +115,11 @@ module _ (l : List ℕ) where
       → length (image_of 1 (record { comments = cs; tree = x })) ≡ 7 + length (pair_bytes cs) + length (written x)
   image_length cs x = let e = length-append (pair_bytes cs) (written x) in omega arith
 
-  pub is_measured : (cs : List Span) (at : ℕ) (x : Plain) (end pairs bytes : ℕ) → comments_from l MAX_COMMENTS 0 ≡ got cs at
+  pub is_measured : (cs : List Span) (at : ℕ) (x : Plain) (end pairs bytes : ℕ) → comments_from l MAX_COMMENTS 0 0 ≡ got cs at
       → record_from l MAX_RECORDS_DEEP TREE at ≡ got x end → length l ≤ end → pairs ≡ length (pair_bytes cs) → bytes ≡ length (written x)
       → measures at (7 + pairs + bytes) ≡ measured (contents_from l)
   is_measured cs at x end pairs bytes e f h p q =
-      let k = comments_got l MAX_COMMENTS 0 cs at (omega arith) e in
+      let k = comments_got l MAX_COMMENTS 0 0 cs at (omega arith) e in
       let a : at ≡ 9 * length cs = omega (arith, k.ends) in
       let n : 7 + pairs + bytes ≡ length (image_of 1 (record { comments = cs; tree = x })) = sym (image_length cs x ∙ omega arith) in
       ap₂ measures a n ∙ sym (ap measured (contents_whole cs at x end e f h))
@@ -134,7 +134,7 @@ module _ (l : List ℕ) where
     pub comments : List Span
     pub tree : Plain
     pub end : ℕ
-    pub pairs : comments_from l MAX_COMMENTS 0 ≡ got comments at
+    pub pairs : comments_from l MAX_COMMENTS 0 0 ≡ got comments at
     pub reads : record_from l MAX_RECORDS_DEEP TREE at ≡ got tree end
     pub count : at ≡ 9 * length comments
     pub few : length comments ≤ 8192
@@ -142,7 +142,7 @@ module _ (l : List ℕ) where
     pub image : image_due l ≡ image_of 1 (record { comments = comments; tree = tree })
     pub size : bytes ≡ 7 + 8 * length comments + length (written tree)
 
-  parts_by : (at bytes : ℕ) (r : Read (List Span)) → comments_from l MAX_COMMENTS 0 ≡ r → measures at bytes ≡ measured (contents_from l)
+  parts_by : (at bytes : ℕ) (r : Read (List Span)) → comments_from l MAX_COMMENTS 0 0 ≡ r → measures at bytes ≡ measured (contents_from l)
       → Parts at bytes
   parts_by at bytes (bad n p) e h =
       let w : measures at bytes ≡ refused (record { number = n; place = p }) = h ∙ ap measured (contents_pairs n p e) in
@@ -166,7 +166,7 @@ module _ (l : List ℕ) where
           done false b =
               let c = contents_whole cs a x end e f (omega (arith, ltb-false end (length l) b)) in
               let w : measures at bytes ≡ measures (9 * length cs) (length (image_of 1 (record { comments = cs; tree = x }))) = h ∙ ap measured c in
-              let k = comments_got l MAX_COMMENTS 0 cs a (omega arith) e in
+              let k = comments_got l MAX_COMMENTS 0 0 cs a (omega arith) e in
               let m = same_measure at bytes _ _ w in
               let p : at ≡ 9 * length cs = m.0 in
               let q : bytes ≡ length (image_of 1 (record { comments = cs; tree = x })) = m.1 in
@@ -185,7 +185,7 @@ module _ (l : List ℕ) where
               }
 
   pub parts : (at bytes : ℕ) → measures at bytes ≡ measured (contents_from l) → Parts at bytes
-  parts at bytes h = parts_by at bytes (comments_from l MAX_COMMENTS 0) refl h
+  parts at bytes h = parts_by at bytes (comments_from l MAX_COMMENTS 0 0) refl h
 
 -- ---- what is put
 -- a run over what is accepted puts it

@@ -1,6 +1,6 @@
 -- The loops over an accepted image, and what is listed of the whole.
 -- Assumes nothing.
-use mathlib.Core.Bool.{false}
+use mathlib.Core.Bool.{true}
 use mathlib.Core.Path.{◌≡◌, refl, sym, ap, ap₂, subst, ◌∙◌}
 use mathlib.Core.List.{List, [], ◌∷◌, ◌++◌, map}
 use Prim.Native.Nat.{ℕ, zero, suc, ◌+◌, ◌-◌, ◌*◌, ◌≤◌, ◌<◌}
@@ -269,9 +269,9 @@ pairs_long b (suc n) at = let e = pairs_long b n (at + 8) in omega arith
 
 -- ---- the whole
 -- an image of version 1, whose texts have two bytes of width
-there_two : (s b : List ℕ) (i : Image) (end : ℕ) → read_version 1 false s b ≡ got i end → There (eqb 1) b i × Stands b 2 i.tree i.at (length b)
+there_two : (s b : List ℕ) (i : Image) (end : ℕ) → read_version 1 true s b ≡ got i end → There (eqb 1) b i × Stands b 2 i.tree i.at (length b)
 there_two s b i end h =
-    let t = there (eqb 1) false s b i end h in
+    let t = there (eqb 1) true s b i end h in
     (t, subst (λ (v : ℕ). Stands b v i.tree i.at (length b)) (two_bytes b (sym (eqb-true 1 (version b) t.may_be))) t.stands)
 
 pub image_puts : (b : List ℕ) (n at pos r : ℕ) (out o₁ o₂ : List ℕ) → ImageThere b n at → Puts (pairs_bytes b n 7) 0 out pos o₁
@@ -289,10 +289,10 @@ image_puts b n at pos r out o₁ o₂ a p q s i end h =
     rw is at all
 
 -- ---- the answer
-pub image_there : (s b : List ℕ) (d : Document) → accepted d ≡ outcome (read_version 1 false s b) → ImageThere b d.comments d.tree
-image_there s b d h = go (read_version 1 false s b) refl h
+pub image_there : (s b : List ℕ) (d : Document) → accepted d ≡ outcome (read_version 1 true s b) → ImageThere b d.comments d.tree
+image_there s b d h = go (read_version 1 true s b) refl h
   where
-    go : (r : Read Image) → read_version 1 false s b ≡ r → accepted d ≡ outcome r → ImageThere b d.comments d.tree
+    go : (r : Read Image) → read_version 1 true s b ≡ r → accepted d ≡ outcome r → ImageThere b d.comments d.tree
     go (got i end) e h =
         let same : document_of i ≡ d = cc in
         record {
@@ -322,23 +322,23 @@ tree_there b n at pos out o a p =
     }
 
 module _ (s b out : List ℕ) where
-  pub lists_refused : (x : Refusal) → refused x ≡ outcome (read_version 1 false s b)
+  pub lists_refused : (x : Refusal) → refused x ≡ outcome (read_version 1 true s b)
       → (refused x ≡ steps_of_answer s b (length out)) × (out ≡ steps_of_output s b out)
-  lists_refused x h = go (read_version 1 false s b) refl h
+  lists_refused x h = go (read_version 1 true s b) refl h
     where
-      go : (r : Read Image) → read_version 1 false s b ≡ r → refused x ≡ outcome r
+      go : (r : Read Image) → read_version 1 true s b ≡ r → refused x ≡ outcome r
           → (refused x ≡ steps_of_answer s b (length out)) × (out ≡ steps_of_output s b out)
       go (got i end) e h = cc
       go (bad m q) e h =
           let same : x ≡ record { number = m; place = q } = cc in
           (rw e (ap refused same), rw e)
 
-  module _ (d : Document) (h : accepted d ≡ outcome (read_version 1 false s b)) (bytes : ℕ) (u v : List ℕ) (p : PutsImage b u bytes v) where
+  module _ (d : Document) (h : accepted d ≡ outcome (read_version 1 true s b)) (bytes : ℕ) (u v : List ℕ) (p : PutsImage b u bytes v) where
     pub lists_long : length out < bytes
         → (refused (record { number = 17; place = bytes }) ≡ steps_of_answer s b (length out)) × (out ≡ steps_of_output s b out)
-    lists_long k = go (read_version 1 false s b) refl h
+    lists_long k = go (read_version 1 true s b) refl h
       where
-        go : (r : Read Image) → read_version 1 false s b ≡ r → accepted d ≡ outcome r
+        go : (r : Read Image) → read_version 1 true s b ≡ r → accepted d ≡ outcome r
             → (refused (record { number = 17; place = bytes }) ≡ steps_of_answer s b (length out)) × (out ≡ steps_of_output s b out)
         go (bad m q) e h = let z : ◌≡◌ {A = ℕ} 0 1 = cc in absurd (omega arith)
         go (got i end) e h =
@@ -347,9 +347,9 @@ module _ (s b out : List ℕ) where
 
     pub lists_whole : (r : ℕ) (o : List ℕ) → bytes ≤ length out → PutsImage b out r o
         → (accepted bytes ≡ steps_of_answer s b (length out)) × (o ≡ steps_of_output s b out)
-    lists_whole r o k q = go (read_version 1 false s b) refl h
+    lists_whole r o k q = go (read_version 1 true s b) refl h
       where
-        go : (x : Read Image) → read_version 1 false s b ≡ x → accepted d ≡ outcome x
+        go : (x : Read Image) → read_version 1 true s b ≡ x → accepted d ≡ outcome x
             → (accepted bytes ≡ steps_of_answer s b (length out)) × (o ≡ steps_of_output s b out)
         go (bad m y) e h = let z : ◌≡◌ {A = ℕ} 0 1 = cc in absurd (omega arith)
         go (got i end) e h =

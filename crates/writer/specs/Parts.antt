@@ -17,5 +17,5 @@ TreePut l at out o =
 -- version 1, the length of what follows it, the number of comments and the comments
 abbrev pub FrontPut : List ℕ → ℕ → ℕ → List ℕ → List ℕ → Type 0
 FrontPut l n bytes out o =
-    (cs : List Span) (end : ℕ) → comments_from l MAX_COMMENTS 0 ≡ got cs end → 7 + length (pair_bytes cs) < 4294967296
+    (cs : List Span) (end : ℕ) → comments_from l MAX_COMMENTS 0 0 ≡ got cs end → 7 + length (pair_bytes cs) < 4294967296
     → o ≡ sets (sets (sets (sets out 0 (1 ∷ [])) 1 (bytes4 ((bytes - 5) % 4294967296))) 5 (bytes2 n)) 7 (pair_bytes cs)

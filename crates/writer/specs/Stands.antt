@@ -1,5 +1,5 @@
 -- What the code that lists an accepted image goes by: steps put into an output.
-use Rattle.std.specs.Prelude.{false, ◌≡◌, List, ℕ, ◌+◌, ◌*◌, ◌≤◌, length}
+use Rattle.std.specs.Prelude.{true, ◌≡◌, List, ℕ, ◌+◌, ◌*◌, ◌≤◌, length}
 use Rattle.std.proofs.lemmas.List.Edits.{sets}
 use Rattle.image.specs.Read.{Tree, Trees, got, Image, read_version}
 use Rattle.image.specs.Standing.{Whole, Stands, Row}
@@ -52,9 +52,9 @@ pub record ImageThere (b : List ℕ) (n at : ℕ) : Type 0 where
   pub source : List ℕ
   pub image : Image
   pub end : ℕ
-  pub reads : read_version 1 false source b ≡ got image end
+  pub reads : read_version 1 true source b ≡ got image end
   pub count : image.comments ≡ n
   pub place : image.at ≡ at
 
 abbrev pub PutsImage : List ℕ → List ℕ → ℕ → List ℕ → Type 0
-PutsImage b out r o = (s : List ℕ) (i : Image) (end : ℕ) → read_version 1 false s b ≡ got i end → Puts (steps_of b i) 0 out r o
+PutsImage b out r o = (s : List ℕ) (i : Image) (end : ℕ) → read_version 1 true s b ≡ got i end → Puts (steps_of b i) 0 out r o

@@ -36,7 +36,7 @@ pub fn write_image(steps: &[u8], out: &mut [u8]) -> Result<usize, Refused>
 pub fn steps_of(source: &[u8], image: &[u8], out: &mut [u8]) -> Result<usize, Refused>
     ensures { Lists source.now image.now out.old result out.new }
 {
-    let doc = image::check_version(source, image, 1)?;
+    let doc = image::check_version(source, image, 1, true)?;
     let bytes = list_image(image, doc.comments, doc.tree, &mut []);
     if out.len() < bytes {
         return Err(Reason::ImageNeeds.at(bytes));

@@ -14,36 +14,39 @@ use image::limits::MAX_COMMENTS;
 use refusals::{Reason, Refused};
 
 impl Step<'_> {
-    // Whether a comment stands here that is neither empty nor reversed.
+    // Whether a comment stands here that is neither empty nor reversed, and starts at `least` or after it.
     #[tactic(auto, using(crate::proofs::Seen::room_for))]
-    fn pair_fits(&self) -> bool
-        ensures { result ≡ taken (bind (step_from self.now.steps.now self.now.at) (pair_by self.now.at)) }
+    fn pair_fits(&self, least: usize) -> bool
+        ensures { result ≡ taken (bind (step_from self.now.steps.now self.now.at) (pair_by least self.now.at)) }
     {
         if !self.stands(Code::Comment, COMMENT_BYTES) {
             return false;
         }
-        num32(self.steps, self.at + 1) < num32(self.steps, self.at + 5)
+        let start = num32(self.steps, self.at + 1);
+        least <= start && start < num32(self.steps, self.at + 5)
     }
 }
 
 // Puts the comments, up to the first other step.
-#[tactic(auto, using(crate::proofs::Seen::room_for, crate::proofs::Commented::pair_fits))]
 pub(crate) fn put_comments(steps: &[u8], out: &mut Output) -> Result<usize, Refused>
     requires { out.old.pos ≤ 7 }
-    ensures put { put_of result out.new ≡ put_by pair_bytes out.old.pos out.old.bytes.now (comments_from steps.now MAX_COMMENTS 0) }
+    ensures put { put_of result out.new ≡ put_by pair_bytes out.old.pos out.old.bytes.now (comments_from steps.now MAX_COMMENTS 0 0) }
     ensures same { Same out.old out.new }
 {
     let mut left = MAX_COMMENTS;
+    let mut least = 0;
     let mut here = Step { steps, at: 0 };
     // kept: as a loop: it goes on while a comment stands there, and answers where none does; an iterator of comments would lose that place. `left`
-    // counts down beside it, since one comment too many is refused where it stands, which a range would leave to a test behind it.
+    // counts down beside it, since one comment too many is refused where it stands, which a range would leave to a test behind it. `least` is the end
+    // of the comment before.
     while here.stands(Code::Comment, 1) {
         if left == 0 {
             return Err(Reason::Steps.at(here.at));
         }
-        if !here.pair_fits() {
+        if !here.pair_fits(least) {
             return Err(Reason::Steps.at(here.at));
         }
+        least = num32(steps, here.at + 5);
         let next = here.at + COMMENT_BYTES;
         out.copy(&steps[here.at + 1..next]);
         left -= 1;

@@ -86,12 +86,48 @@ pub fn layout(
     args: &LayoutArgs,
     options: &Options,
 ) -> Result<Laid, Refusal> {
-    let from = numbers(state.numbers());
-    let mode = options.comments.mode();
-    let rule = options.widths.rule();
-    let args = numbers([args.stop, args.close.into(), mode, rule]);
+    let (from, args) = layout_numbers(state, args, options);
     let mut out = [0; 11];
     linked::layout(file.source, file.image, store, &from, &args, &mut out);
+    laid(out)
+}
+
+/// The same for archived images: their comments may be in any order, as they
+/// might before request 10, and are laid in the order of their list. What
+/// [`layout`] accepts, this answers alike. A run may mix both: no state holds
+/// by which a call was made.
+///
+/// # Errors
+///
+/// As [`layout`], but for a comment that starts before the end of the one
+/// before (7).
+pub fn layout_archived(
+    file: File<'_>,
+    store: &mut [u32],
+    state: &LayoutState,
+    args: &LayoutArgs,
+    options: &Options,
+) -> Result<Laid, Refusal> {
+    let (from, args) = layout_numbers(state, args, options);
+    let File { source, image } = file;
+    let mut out = [0; 11];
+    linked::layout_archived(source, image, store, &from, &args, &mut out);
+    laid(out)
+}
+
+/// What a layout call is handed as state and as arguments.
+fn layout_numbers(
+    state: &LayoutState,
+    args: &LayoutArgs,
+    options: &Options,
+) -> ([u64; 9], [u64; 4]) {
+    let (mode, rule) = (options.comments.mode(), options.widths.rule());
+    let args = [args.stop, args.close.into(), mode, rule];
+    (numbers(state.numbers()), numbers(args))
+}
+
+/// What a layout call answers.
+fn laid(out: [u64; 11]) -> Result<Laid, Refusal> {
     let [number, comments_left, state @ ..] = sizes(out);
     refused(number, comments_left)?;
     Ok(Laid {

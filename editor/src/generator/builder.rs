@@ -14,8 +14,8 @@ use crate::{
 /// and docs/01-scope.md says what each holds.
 ///
 /// A step that can be told to be wrong without the grammar is turned down at
-/// once, and isn't added: a comment that is empty, reversed, too late or one
-/// too many, a reversed span, a record 65 deep, a text or a payload byte that
+/// once, and isn't added: a comment that is empty, reversed, before the end of
+/// the one before, too late or one too many, a reversed span, a record 65 deep, a text or a payload byte that
 /// is missing or has no record of its kind, a number that an image has no
 /// bytes for, a step outside the tree. Which
 /// kinds there are, where they may stand, and which payload bytes, is for the
@@ -25,6 +25,8 @@ use crate::{
 pub struct Builder {
     list: Vec<u8>,
     comments: usize,
+    /// Where the last comment ends.
+    comment_end: usize,
     /// How many records are open.
     depth: usize,
     /// What the record that was just opened must get next.
@@ -60,6 +62,7 @@ impl Default for Builder {
         Builder {
             list: Vec::new(),
             comments: 0,
+            comment_end: 0,
             depth: 0,
             due: Due::Nothing,
             closed: false,
@@ -74,12 +77,14 @@ impl Builder {
         Builder::default()
     }
 
-    /// A comment, before all other steps.
+    /// A comment, before all other steps, at or after the end of the one
+    /// before.
     ///
     /// # Errors
     ///
-    /// Refusal 16 if it is empty or reversed, comes too late, is one over
-    /// 8,192, or has a number over four bytes.
+    /// Refusal 16 if it is empty or reversed, starts before the end of the one
+    /// before, comes too late, is one over 8,192, or has a number over four
+    /// bytes.
     pub fn comment(&mut self, span: Span) -> Result<&mut Self, Refusal> {
         self.step(&Step::Comment { span })
     }
@@ -179,6 +184,7 @@ impl Builder {
                 self.depth == 0
                     && self.comments < MAX_COMMENTS
                     && span.start < span.end
+                    && span.start >= self.comment_end
             }
             Step::Open { span, .. } => {
                 self.due == Due::Nothing
@@ -194,7 +200,10 @@ impl Builder {
     /// What a step that fits changes.
     fn follow(&mut self, step: &Step) {
         match step {
-            Step::Comment { .. } => self.comments += 1,
+            Step::Comment { span } => {
+                self.comments += 1;
+                self.comment_end = span.end;
+            }
             Step::Open { kind, .. } => {
                 self.depth += 1;
                 self.due = Due::of(*kind);

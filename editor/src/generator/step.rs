@@ -9,7 +9,8 @@ use crate::{ast::Span, kind, limits::MAX_WIDTH};
 /// first.
 #[derive(Clone, Debug, PartialEq, Eq, Hash)]
 pub enum Step {
-    /// 1: a comment, before all other steps.
+    /// 1: a comment, before all other steps, at or after the end of the one
+    /// before.
     Comment {
         /// Its bytes in the source.
         span: Span,

@@ -56,6 +56,7 @@ pub fn linked(text: &str) -> Vec<Function> {
     for (name, _) in &mut found {
         *name = format!("rrufthim_{name}_s{number}");
     }
+    found.sort();
     found
 }
 

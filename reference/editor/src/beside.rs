@@ -5,7 +5,7 @@ use judge::{
     frame::{self, Frame},
     mode,
     program::{self, Widths},
-    reader::{self, Accepted, Version},
+    reader::{self, Accepted, Reading, Version},
     rule::{UNICODE_15_1, UNICODE_16_0},
     tree,
 };
@@ -14,7 +14,7 @@ use rrufthim::{
     fmt_written, write_tree,
 };
 
-use crate::{File, as_written, convert, decode, plug};
+use crate::{File, as_written, backwards, convert, decode, plug};
 
 /// What the original makes of a file, and what it makes of it when it closes
 /// in the new mode of request 4, the crate's default; the latter also by an
@@ -30,19 +30,24 @@ pub struct Due {
 }
 
 impl Due {
-    /// Runs the original on an accepted frame.
+    /// Runs the original on an accepted frame, whose comments may be in any
+    /// order.
     pub fn of(frame: Frame, accepted: &Accepted) -> Self {
-        let run = program::format(frame, Widths::Supplied).expect("accepted");
-        let placed = accepted.comments.len() - run.comments_left;
+        let run = |choice| {
+            let (widths, earlier) = (Widths::Supplied, Reading::Earlier);
+            let run = program::format_by(frame, widths, choice, earlier);
+            run.expect("accepted")
+        };
         let kept = |rule| {
-            let choice = Choice {
+            run(Choice {
                 mode: mode::NEW,
                 rule,
                 ..Choice::REFERENCE
-            };
-            let kept = program::format_as(frame, Widths::Supplied, choice);
-            kept.expect("accepted").text
+            })
+            .text
         };
+        let run = run(Choice::REFERENCE);
+        let placed = accepted.comments.len() - run.comments_left;
         // The one for some files, the other for the others.
         let (edition, rule) = match frame.image.len() % 2 {
             0 => (rrufthim::Widths::Unicode15_1, UNICODE_15_1),
@@ -60,15 +65,21 @@ impl Due {
 }
 
 /// What is not as the judge has it, with the widths that an image of version 1
-/// supplies; `None` if the reader refuses the frame, or it is of version 2.
+/// supplies; `None` if the reader refuses the frame, for another cause than the
+/// order of its comments, or it is of version 2.
 pub fn differences(bytes: &[u8]) -> Option<Vec<&'static str>> {
     let frame = frame::split_any_size(bytes).expect("a frame");
-    let one = Version::One;
-    let accepted = reader::read_version(frame.source, frame.image, one);
-    let accepted = accepted.ok()?;
+    let Frame { source, image } = frame;
+    let (one, earlier) = (Version::One, Reading::Earlier);
+    let accepted = reader::read_version(source, image, one, earlier).ok()?;
     let due = Due::of(frame, &accepted);
     let file = decode(&accepted);
-    let input = tree::Input::new(&accepted, frame.image);
+    let input = tree::Input::new(&accepted, image);
+    if let Err(refusal) = reader::read(source, image) {
+        let found =
+            backwards::differences(frame, &file, &input, &due, refusal);
+        return Some(found);
+    }
     let mut found = of_the_crate(&file, &due);
     found.extend(of_the_conversion(&file, &input, &due));
     found.extend(of_the_plug(file.source, &input, &due));
@@ -97,7 +108,13 @@ pub fn of_the_crate(file: &File, due: &Due) -> Vec<&'static str> {
         write_tree(out, tree, &extras.comments, |_| 7)
     });
     let measured = measured.expect("accepted");
+    let mut by_archive = Formatter::new();
+    let archived = image.as_ref().map(|image| {
+        let archived = rrufthim::File::new(source, image);
+        by_archive.format_archived(archived).expect("accepted").text
+    });
     named([
+        ("archived text", archived == Ok(&due.kept)),
         ("image", image.as_ref() == Ok(&due.image)),
         ("text", roto.text == due.text),
         ("comments left", roto.comments_left == due.comments_left),
@@ -164,7 +181,7 @@ pub fn of_the_plug(
 }
 
 /// The names of those that are not the same.
-fn named<const N: usize>(
+pub(crate) fn named<const N: usize>(
     tests: [(&'static str, bool); N],
 ) -> Vec<&'static str> {
     let differing = tests.into_iter().filter(|(_, same)| !same);

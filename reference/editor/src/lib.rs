@@ -2,6 +2,7 @@
 //! crate's types for its encoder, and to the original's for its plug. And
 //! what `reference/fmt` does, for files of one's own.
 
+pub mod backwards;
 pub mod beside;
 pub mod convert;
 mod declarations;

@@ -16,7 +16,7 @@ use rrufthim::{
 };
 
 const SEED: u64 = 11;
-const BATCHES: u64 = 250;
+const BATCHES: u64 = 400;
 
 /// A text and the comments that it lacks, or number and place.
 type Answer = Result<(String, Vec<Span>), [u64; 2]>;

@@ -77,6 +77,7 @@ fn differences_are_found() {
     assert_eq!(left, ["comments left", "the plug's comments left"]);
     let kept = found(|due| due.kept.push(' '));
     let texts = [
+        "archived text",
         "text with all comments",
         "the plug's text with all comments",
     ];

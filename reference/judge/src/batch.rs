@@ -5,6 +5,7 @@ use crate::{
     choice::Choice,
     frame::Frame,
     program::{self, Widths},
+    reader::Reading,
     refusal::{Refusal, refusal},
 };
 
@@ -78,7 +79,16 @@ fn first(bytes: &[u8]) -> Result<(Frame<'_>, &[u8]), Cause> {
 
 /// A file's text, or what refuses it: 20, 1 to 7, 12, 15, 8, 9.
 pub fn single(file: Frame, choice: Choice) -> Result<String, Refusal> {
-    let run = program::format_as(file, Widths::Supplied, choice)?;
+    single_by(file, choice, Reading::Strict)
+}
+
+/// The same of an image that is read otherwise.
+pub fn single_by(
+    file: Frame,
+    choice: Choice,
+    reading: Reading,
+) -> Result<String, Refusal> {
+    let run = program::format_by(file, Widths::Supplied, choice, reading)?;
     program::has_rows(&run).map(|()| run.text)
 }
 

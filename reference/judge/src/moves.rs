@@ -3,7 +3,9 @@
 
 use crate::{
     image::{self, Tree},
-    reader::{self, Accepted, HEADER, MOST_BODY, Payload, Record, Version},
+    reader::{
+        self, Accepted, HEADER, MOST_BODY, Payload, Reading, Record, Version,
+    },
     refusal::{Refusal, refusal},
     rule::{UNICODE_16_0, measure},
 };
@@ -29,7 +31,7 @@ pub struct Text {
 }
 
 /// The moved image, where so many bytes are lent for it: refusals 1, 2, 3 (for
-/// the other version too), 7, 4, 5, 6, then 21, then 17.
+/// the other version too), 7 by the earlier rule, 4, 5, 6, then 21, then 17.
 pub fn moved(
     way: Way,
     source: &[u8],
@@ -40,7 +42,7 @@ pub fn moved(
         Way::Forward => [Version::One, Version::Two],
         Way::Back => [Version::Two, Version::One],
     };
-    let read = reader::read_version(source, image, from)?;
+    let read = reader::read_version(source, image, from, Reading::Earlier)?;
     let wrong = |text: &Text| match text.stored {
         Some(width) => usize::from(width) != text.due,
         None => u16::try_from(text.due).is_err(),

@@ -4,7 +4,7 @@ use crate::{
     choice::Choice,
     driver::{self, Run},
     frame::{self, Frame},
-    reader,
+    reader::{self, Reading},
     refusal::{Refusal, refusal},
     rows, rule,
     tree::Input,
@@ -35,8 +35,18 @@ pub fn format_as(
     widths: Widths,
     choice: Choice,
 ) -> Result<Run, Refusal> {
+    format_by(frame, widths, choice, Reading::Strict)
+}
+
+/// The same of an image that is read otherwise.
+pub fn format_by(
+    frame: Frame,
+    widths: Widths,
+    choice: Choice,
+    reading: Reading,
+) -> Result<Run, Refusal> {
     rule::check_for(choice.rule, frame.image)?;
-    let accepted = reader::read(frame.source, frame.image)?;
+    let accepted = reader::read_by(frame.source, frame.image, reading)?;
     choice.check()?;
     let input = Input::new(&accepted, frame.image);
     let _held = (widths == Widths::Supplied).then(|| input.supply_widths());
@@ -48,10 +58,25 @@ pub fn answer(bytes: &[u8], widths: Widths) -> Result<Run, Refusal> {
     within_limits(frame::split(bytes)?, widths)
 }
 
+/// The same of an archived image, which two calls format: by the earlier rule.
+pub fn answer_archived(bytes: &[u8]) -> Result<Run, Refusal> {
+    let frame = frame::split(bytes)?;
+    within_limits_by(frame, Widths::Supplied, Reading::Earlier)
+}
+
 /// Runs the formatter with the program's rows, marks and output: 20 for a first
 /// byte 2, the reader's refusals, then 8, 9, 10.
 pub fn within_limits(frame: Frame, widths: Widths) -> Result<Run, Refusal> {
-    let run = format(frame, widths)?;
+    within_limits_by(frame, widths, Reading::Strict)
+}
+
+/// The same of an image that is read otherwise.
+pub fn within_limits_by(
+    frame: Frame,
+    widths: Widths,
+    reading: Reading,
+) -> Result<Run, Refusal> {
+    let run = format_by(frame, widths, Choice::REFERENCE, reading)?;
     fits(&run).map(|()| run)
 }
 

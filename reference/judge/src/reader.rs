@@ -71,21 +71,26 @@ impl Record<'_> {
     }
 }
 
-/// Whether comments (7) and spans (6) are tested to be ranges of the source.
-/// The original doesn't test them.
+/// What is tested of comments (7) and spans (6).
 #[derive(Clone, Copy, Debug, PartialEq, Eq)]
-pub enum Ranges {
-    Tested,
-    Believed,
+pub enum Reading {
+    /// Request 10: each comment starts at or after the end of the one before;
+    /// and all that was tested earlier.
+    Strict,
+    /// Each is a range of the source, and no comment is empty: how archived
+    /// images read.
+    Earlier,
+    /// Nothing: the original doesn't test them.
+    Believing,
 }
 
 /// Reads an image of either version with its source: refusals 1, 2, 3, 7,
-/// then 4, 5, 6.
+/// then 4, 5, 6. All entries read so, but for the archive entry and the moves.
 pub fn read<'i>(
     source: &'i [u8],
     image: &'i [u8],
 ) -> Result<Accepted<'i>, Refusal> {
-    read_with(source, image, Ranges::Tested)
+    read_by(source, image, Reading::Strict)
 }
 
 /// The same for a caller that reads one version alone: 3 for the other.
@@ -93,30 +98,31 @@ pub fn read_version<'i>(
     source: &'i [u8],
     image: &'i [u8],
     version: Version,
+    reading: Reading,
 ) -> Result<Accepted<'i>, Refusal> {
     check_source_length(source)?;
     check_encoding(source)?;
     if check_header(image)? != version {
         return Err(refusal(3, 0));
     }
-    read(source, image)
+    read_by(source, image, reading)
 }
 
-/// The same with or without the tests of ranges.
-pub fn read_with<'i>(
+/// An image of either version by the strict rule, the earlier one, or none.
+pub fn read_by<'i>(
     source: &'i [u8],
     image: &'i [u8],
-    ranges: Ranges,
+    reading: Reading,
 ) -> Result<Accepted<'i>, Refusal> {
     check_source_length(source)?;
     let source = check_encoding(source)?;
     let version = check_header(image)?;
-    let comments = read_comments(source, image, ranges)?;
+    let comments = read_comments(source, image, reading)?;
     let mut reader = Reader {
         source,
         image,
         version,
-        ranges,
+        reading,
         at: HEADER + COUNT + PAIR * comments.len(),
     };
     let tree = reader.present(grammar::TREE, image.len(), 1)?;
@@ -162,11 +168,11 @@ pub fn check_header(image: &[u8]) -> Result<Version, Refusal> {
     }
 }
 
-/// Refusal 7.
+/// Refusal 7: of the first pair that is at fault, whatever its fault.
 fn read_comments(
     source: &str,
     image: &[u8],
-    ranges: Ranges,
+    reading: Reading,
 ) -> Result<Vec<Range<usize>>, Refusal> {
     let bad_count = refusal(7, HEADER);
     let (count, rest) = image[HEADER..]
@@ -176,17 +182,29 @@ fn read_comments(
     if count > MOST_COMMENTS || count * PAIR > rest.len() {
         return Err(bad_count);
     }
-    (0..count)
-        .map(|i| {
-            let at = HEADER + COUNT + PAIR * i;
-            let span = number(image, at)..number(image, at + 4);
-            let right = !span.is_empty() && lies_in(source, &span);
-            if ranges == Ranges::Tested && !right {
-                return Err(refusal(7, at));
-            }
-            Ok(span)
-        })
-        .collect()
+    let mut comments: Vec<Range<usize>> = Vec::new();
+    for place in 0..count {
+        let at = HEADER + COUNT + PAIR * place;
+        let span = number(image, at)..number(image, at + 4);
+        let is_range = !span.is_empty() && lies_in(source, &span);
+        let right = match reading {
+            Reading::Strict => is_range && comes_after(&comments, &span),
+            Reading::Earlier => is_range,
+            Reading::Believing => true,
+        };
+        if !right {
+            return Err(refusal(7, at));
+        }
+        comments.push(span);
+    }
+    Ok(comments)
+}
+
+/// Request 10: "a comment must start at or after the end of the one before".
+/// The first has none before it.
+pub fn comes_after(before: &[Range<usize>], comment: &Range<usize>) -> bool {
+    let last = before.last();
+    last.is_none_or(|last| comment.start >= last.end)
 }
 
 /// Whether a range is in order, within the source and on boundaries.
@@ -203,7 +221,7 @@ struct Reader<'i> {
     source: &'i str,
     image: &'i [u8],
     version: Version,
-    ranges: Ranges,
+    reading: Reading,
     at: usize,
 }
 
@@ -261,7 +279,7 @@ impl<'i> Reader<'i> {
         if depth > MOST_DEPTH {
             return Err(refusal(5, at));
         }
-        let tested = self.ranges == Ranges::Tested;
+        let tested = self.reading != Reading::Believing;
         if tested && !lies_in(self.source, &span) {
             return Err(refusal(6, at));
         }

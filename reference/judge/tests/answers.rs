@@ -3,10 +3,13 @@
 use judge::{
     answers::{self, frames, text},
     batch::{Batched, batch},
+    calls::Call,
     choice::Choice,
+    driver::Run,
     examples, explain,
     generate::{self, Class},
     program::{self, Widths},
+    refusal::Refusal,
     steps,
 };
 
@@ -88,23 +91,30 @@ fn frame_answers_are_laid_out_as_described() {
         for frame in generate::frames(class, 3, 40) {
             let answered = frames::answered(&frame);
             let mut input = Input(&answered);
-            check_answer(&mut input, &frame);
+            let due = program::answer(&frame, Widths::Supplied);
+            let length = input.number(4);
+            assert_eq!(input.bytes(length), frame);
+            check_answer(&mut input, &due);
+            // By the archive entry, where the comments are refused.
+            if due.err().is_some_and(|refusal| refusal.number == 7) {
+                let archived = program::answer_archived(&frame);
+                check_answer(&mut input, &archived);
+            }
             assert!(input.0.is_empty());
         }
     }
 }
 
-fn check_answer(input: &mut Input, frame: &[u8]) {
-    let length = input.number(4);
-    assert_eq!(input.bytes(length), frame);
+fn check_answer(input: &mut Input, due: &Result<Run, Refusal>) {
     let number = input.number(1);
     let place = input.number(8);
-    let due = program::answer(frame, Widths::Supplied);
-    let Ok(run) = due else {
-        let refusal = due.unwrap_err();
-        let numbers = (refusal.number.into(), refusal.place as usize);
-        assert_eq!((number, place), numbers);
-        return;
+    let run = match due {
+        Ok(run) => run,
+        Err(refusal) => {
+            let numbers = (refusal.number.into(), refusal.place as usize);
+            assert_eq!((number, place), numbers);
+            return;
+        }
     };
     assert_eq!((number, place), (0, 0));
     assert_eq!(input.number(4), run.rows.len());
@@ -169,13 +179,19 @@ fn call_answers_are_laid_out_as_described() {
         let calls = input.number(2);
         assert_eq!(calls, case.calls.len());
         let mut written = 0;
-        for _ in 0..calls {
+        for one in &case.calls {
             let kind = input.number(1);
+            let due = match one {
+                Call::Layout(args) if args.archive => 2,
+                Call::Layout(_) => 0,
+                Call::Render { .. } => 1,
+            };
+            assert_eq!(kind, due);
             input.bytes(ARGUMENTS);
             let refusal = input.number(1);
             input.bytes(8);
             match (refusal, kind) {
-                (0, 0) => {
+                (0, 0 | 2) => {
                     input.bytes(LAYOUT_STATE + 4);
                 }
                 (0, _) => {

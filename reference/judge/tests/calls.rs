@@ -1,7 +1,10 @@
 //! Calls, their refusals, and the cut rule on the original itself.
 
 use judge::{
-    calls::{self, Answer, Call, Given, LayoutState, RenderState, World},
+    calls::{
+        self, Answer, Call, Given, LayoutArgs, LayoutState, RenderState,
+        World,
+    },
     driver::{Page, Pen, Texts, render_rows},
     examples,
     frame::{self, Frame},
@@ -40,12 +43,13 @@ fn layout(stop: usize, close: bool) -> Call {
 }
 
 fn layout_in(mode: usize, stop: usize, close: bool) -> Call {
-    Call::Layout {
+    Call::Layout(LayoutArgs {
         stop,
         close,
         mode,
         rule: SUPPLIED,
-    }
+        archive: false,
+    })
 }
 
 fn render(stop: usize) -> Call {

@@ -4,7 +4,7 @@
 use std::ops::Range;
 
 use judge::{
-    calls::{self, Answer, Call, Given},
+    calls::{self, Answer, Call, Given, LayoutArgs},
     choice::Choice,
     driver::Run,
     examples,
@@ -12,7 +12,7 @@ use judge::{
     generate::{self, Class},
     mode::{NEW, OLD},
     program::{self, Widths},
-    reader,
+    reader::{self, Accepted, Reading},
     refusal::Refusal,
     rows,
 };
@@ -24,8 +24,15 @@ fn in_mode(mode: usize, bytes: &[u8]) -> Result<Run, Refusal> {
         mode,
         ..Choice::REFERENCE
     };
+    // Some lists run backwards.
+    let (widths, earlier) = (Widths::Supplied, Reading::Earlier);
     let frame = frame::split_any_size(bytes)?;
-    program::format_as(frame, Widths::Supplied, choice)
+    program::format_by(frame, widths, choice, earlier)
+}
+
+fn earlier(frame: Frame<'_>) -> Accepted<'_> {
+    let Frame { source, image } = frame;
+    reader::read_by(source, image, Reading::Earlier).expect("accepted")
 }
 
 fn kept(bytes: &[u8]) -> Run {
@@ -134,7 +141,7 @@ fn the_whole_list_is_held() {
             continue;
         };
         let frame = frame::split_any_size(&bytes).unwrap();
-        let read = reader::read(frame.source, frame.image).unwrap();
+        let read = earlier(frame);
         let laid = old.rows.len() - 1;
         assert_eq!(old.rows[..laid], new.rows[..laid]);
         assert_eq!(old.stops, new.stops);
@@ -169,11 +176,11 @@ fn every_accepted_closing_leaves_none() {
         let mut world = case.world.clone();
         for one in &case.calls {
             let answer = calls::call(given, &mut world, *one);
-            let Call::Layout {
+            let Call::Layout(LayoutArgs {
                 close: true,
                 mode: NEW,
                 ..
-            } = one
+            }) = one
             else {
                 continue;
             };
@@ -219,7 +226,7 @@ fn feet_are_of_every_sort() {
             continue;
         };
         let frame = frame::split_any_size(&bytes).unwrap();
-        let read = reader::read(frame.source, frame.image).unwrap();
+        let read = earlier(frame);
         let comments = &read.comments;
         let left = &comments[run.closed.comments_placed..];
         let declared = run.stops.len() > 1;

@@ -8,7 +8,7 @@ use judge::{
     frame::{self, Frame},
     generate::{self, CallCase, Class},
     program::{self, Widths},
-    reader::{self, Payload},
+    reader::{self, Payload, Reading},
     refusal::Refusal,
     rows::{self, Row},
     table,
@@ -62,7 +62,8 @@ fn wild_and_edge_trees_are_legal() {
     for class in [Class::Wild, Class::Edges] {
         for bytes in generate::frames(class, SEED, COUNT) {
             let frame = frame::split_any_size(&bytes).unwrap();
-            reader::read(frame.source, frame.image).unwrap();
+            let (source, image) = (frame.source, frame.image);
+            reader::read_by(source, image, Reading::Earlier).unwrap();
         }
     }
 }

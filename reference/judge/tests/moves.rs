@@ -4,7 +4,7 @@
 use std::collections::BTreeMap;
 
 use judge::{
-    calls::{self, Answer, Call, Given, World},
+    calls::{self, Answer, Call, Given, LayoutArgs, World},
     choice::Choice,
     driver::Run,
     frame::{self, Frame},
@@ -13,7 +13,7 @@ use judge::{
     mode::{NEW, OLD},
     moves::{self, Way, back, forward, moved},
     program::{self, Widths},
-    reader::{self, Version},
+    reader::{self, Accepted, Reading, Version},
     refusal::{Refusal, refusal},
     rows::{self, Row},
     rule::{SUPPLIED, UNICODE_15_1, UNICODE_16_0},
@@ -245,7 +245,8 @@ fn the_reader_of_version_2() {
         assert_eq!(read(&of(payload)), Err(refusal(4, 20)));
     }
     let said = |image: &[u8], version| {
-        reader::read_version(b"", image, version).map(|_| ())
+        let earlier = Reading::Earlier;
+        reader::read_version(b"", image, version, earlier).map(|_| ())
     };
     assert_eq!(said(ONE, Version::One), Ok(()));
     assert_eq!(said(ONE, Version::Two), Err(refusal(3, 0)));
@@ -311,12 +312,13 @@ fn answers(source: &[u8], image: &[u8], rule: usize) -> [Option<Refusal>; 3] {
         };
         calls::call(given, &mut world, one).err()
     };
-    let layout = Call::Layout {
+    let layout = Call::Layout(LayoutArgs {
         stop: 0,
         close: true,
         mode: OLD,
         rule,
-    };
+        archive: false,
+    });
     let rendering = Call::Render {
         stop: 0,
         room: 0,
@@ -328,9 +330,15 @@ fn answers(source: &[u8], image: &[u8], rule: usize) -> [Option<Refusal>; 3] {
     [whole.err(), call(layout), call(rendering)]
 }
 
+/// What the moves read.
+fn earlier<'i>(source: &'i [u8], image: &'i [u8]) -> Accepted<'i> {
+    reader::read_by(source, image, Reading::Earlier).expect("accepted")
+}
+
 /// The image of a generated frame with the widths of Unicode 16.0.
 fn with_widths(source: &[u8], image: &[u8]) -> Option<Vec<u8>> {
-    let read = reader::read_version(source, image, Version::One).ok()?;
+    let (one, earlier) = (Version::One, Reading::Earlier);
+    let read = reader::read_version(source, image, one, earlier).ok()?;
     let mut right = image.to_vec();
     for text in moves::texts(&read) {
         let width = (text.due as u16).to_be_bytes();
@@ -364,7 +372,7 @@ fn forward_and_back_of_all_classes() {
         };
         let two = forward(source, &one, AMPLE).expect("allowed");
         assert_eq!(back(source, &two, AMPLE).as_ref(), Ok(&one));
-        let read = reader::read(source, &one).expect("accepted");
+        let read = earlier(source, &one);
         let texts = moves::texts(&read);
         assert_eq!(two.len() + 2 * texts.len(), one.len());
         let again = forward(source, &one, AMPLE);
@@ -375,7 +383,7 @@ fn forward_and_back_of_all_classes() {
             continue;
         }
         // The first that differs is named.
-        let supplied = reader::read(source, image).expect("accepted");
+        let supplied = earlier(source, image);
         let wrong = moves::texts(&supplied)
             .into_iter()
             .find(|text| text.stored.map(usize::from) != Some(text.due))
@@ -399,7 +407,7 @@ fn one_width_off() {
         let Some(mut one) = with_widths(source, image) else {
             continue;
         };
-        let read = reader::read(source, image).expect("accepted");
+        let read = earlier(source, image);
         for text in moves::texts(&read) {
             let place = text.at + 13..text.at + 15;
             let right = (text.due as u16).to_be_bytes();
@@ -423,7 +431,9 @@ fn format(source: &[u8], image: &[u8], mode: usize, rule: usize) -> Run {
         ..Choice::REFERENCE
     };
     let frame = Frame { source, image };
-    program::format_as(frame, Widths::Supplied, choice).expect("accepted")
+    let (widths, earlier) = (Widths::Supplied, Reading::Earlier);
+    let run = program::format_by(frame, widths, choice, earlier);
+    run.expect("accepted")
 }
 
 /// What is laid out of a moved image under rule 3 is what was laid out before,
@@ -561,9 +571,7 @@ fn rows_by_bytes() {
         let Frame { source, image } =
             frame::split_any_size(&bytes).expect("a frame");
         let run = format(source, image, NEW, UNICODE_16_0);
-        let comments =
-            reader::read(source, image).expect("accepted").comments;
-        let comments = comments.len();
+        let comments = earlier(source, image).comments.len();
         assert!(run.rows.len() * 13 <= image.len() * 5 + 13 * 5 * comments);
     }
 }

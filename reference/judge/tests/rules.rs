@@ -3,7 +3,10 @@
 mod support;
 
 use judge::{
-    calls::{self, Answer, Call, Given, LayoutState, RenderState, World},
+    calls::{
+        self, Answer, Call, Given, LayoutArgs, LayoutState, RenderState,
+        World,
+    },
     choice::Choice,
     driver::{Page, Pen, RenderedRows, Run, Texts, render_rows},
     frame::{self, Frame},
@@ -346,12 +349,13 @@ fn calls_give_what_whole_files_do() {
                     ..World::default()
                 };
                 let calls = [
-                    Call::Layout {
+                    Call::Layout(LayoutArgs {
                         stop: run.stops.len() - 1,
                         close: true,
                         mode,
                         rule,
-                    },
+                        archive: false,
+                    }),
                     Call::Render {
                         stop: run.rows.len(),
                         room: run.text.len(),
@@ -441,12 +445,13 @@ fn room() -> World {
 }
 
 fn layout(rule: usize, stop: usize) -> Call {
-    Call::Layout {
+    Call::Layout(LayoutArgs {
         stop,
         close: false,
         mode: OLD,
         rule,
-    }
+        archive: false,
+    })
 }
 
 fn render(rule: usize, stop: usize) -> Call {

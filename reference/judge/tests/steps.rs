@@ -175,6 +175,32 @@ fn comments() {
     }
 }
 
+/// Request 10: a comment may start where the one before ends, and not before.
+#[test]
+fn comments_in_order() {
+    let tree = [open(1), Absent, Close];
+    let with = |comments: &[Step]| [comments, &tree].concat();
+    let first = comment(4, 9);
+    let last = comment(u32::MAX - 1, u32::MAX);
+    accepted(&with(&[comment(0, 4), first.clone(), comment(9, 10), last]));
+    for (start, end) in [(8, 10), (4, 9), (5, 6), (0, 4), (0, u32::MAX)] {
+        let early = comment(start, end);
+        let cause = Cause::CommentUnordered;
+        at_fault(&with(&[first.clone(), early.clone()]), 1, cause);
+        // Only the one before counts, and the first step at fault.
+        let more = [first.clone(), comment(9, 10), early, comment(0, 0)];
+        at_fault(&with(&more), 2, cause);
+    }
+    // What is wrong with a comment by itself comes first.
+    at_fault(
+        &with(&[first.clone(), comment(3, 3)]),
+        1,
+        Cause::CommentEmpty,
+    );
+    let reversed = comment(5, 3);
+    at_fault(&with(&[first, reversed]), 1, Cause::CommentReversed);
+}
+
 /// A comment at each place after the first other step.
 #[test]
 fn comments_too_late() {
@@ -189,7 +215,8 @@ fn comments_too_late() {
 #[test]
 fn as_many_comments_as_there_may_be() {
     let tree = [open(1), Absent, Close];
-    let most = vec![comment(0, 1); 8_192];
+    let numbered = (0..8_192).map(|start| comment(start, start + 1));
+    let most: Vec<Step> = numbered.collect();
     accepted(&[&most[..], &tree].concat());
     let more = [&most[..], &[comment(0, 1)], &tree].concat();
     at_fault(&more, 8_192, Cause::CommentTooMany);

@@ -4,7 +4,7 @@ use std::collections::BTreeSet;
 
 use judge::{
     answers::{calls, frames, replay, report, stored},
-    calls::{Answer, Call, Given, World},
+    calls::{Answer, Call, Given, LayoutArgs, World},
     frame, program, reader,
     refusal::Refusal,
     rule::{LEGAL, SUPPLIED},
@@ -55,9 +55,9 @@ fn a_source_too_long_is_among_the_lists() {
 fn lists_stop_at_every_declaration() {
     let stops = |case: &judge::generate::CallCase| {
         let stops = case.calls.iter().filter_map(|call| match call {
-            Call::Layout {
+            Call::Layout(LayoutArgs {
                 stop, close: false, ..
-            } => Some(*stop),
+            }) => Some(*stop),
             _ => None,
         });
         stops.collect::<BTreeSet<_>>()
@@ -123,7 +123,7 @@ fn every_cause_of_12_by_the_mode_is_among_the_lists() {
             let before = world.laying;
             let answer = judge::calls::call(given, &mut world, *one);
             let number = answer.err().map(|refusal| refusal.number);
-            if let Call::Layout { close, mode, .. } = *one {
+            if let Call::Layout(LayoutArgs { close, mode, .. }) = *one {
                 let carried = (before.begun, before.mode);
                 causes.insert((number, mode_cause(mode, carried)));
                 let placed = world.laying.at.comments_placed;
@@ -166,7 +166,7 @@ fn every_cause_by_the_rule_is_among_the_lists() {
             let answer = judge::calls::call(given, &mut world, *one);
             let number = answer.err().map_or(0, |refusal| refusal.number);
             match *one {
-                Call::Layout { rule, .. } => {
+                Call::Layout(LayoutArgs { rule, .. }) => {
                     let laying = before.laying;
                     let cause = rule_cause(rule, laying.begun, laying.rule);
                     causes.insert(("layout", number, rule, cause));

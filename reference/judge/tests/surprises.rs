@@ -8,7 +8,7 @@ use judge::{
     image::{self, Tree, chosen, node, text},
     mode::NEW,
     program::{self, Widths},
-    reader::{self, Ranges},
+    reader::{self, Reading},
     rule::{UNICODE_15_1, UNICODE_16_0},
     script,
     tree::Input,
@@ -350,8 +350,12 @@ fn cut_statements(tree: &mut Tree) {
 fn comment_lists() {
     let source = "import a; // c\n// d\nimport b;\n";
     let first = "`import a; // c`, `// d`, `import b;` with `// d` first in \
-                 the list";
-    assert_row(first, &with_comments(source, &[15..20, 10..15]));
+                 the list, by the archive entry";
+    let (_, tree) = script::read(source).unwrap();
+    let image = image::write(&[15..20, 10..15], &tree);
+    let frame = frame::join(source.as_bytes(), &image);
+    assert_eq!(output(&frame), "refused 7 at 15\n");
+    assert_row(first, &program::answer_archived(&frame).unwrap().text);
     let source = "fn f() {\nlet a = 1; // c\n\nlet b = 2;\n}";
     let first = "`let a = 1; // c`, a blank line, `let b = 2;` in `fn f`, \
                  the comment's span without its newline";
@@ -392,8 +396,8 @@ fn constant_at(span: Range<usize>, value: Option<Tree>) -> Tree {
 /// the page's words for its panic.
 fn untested(frame: &[u8]) -> String {
     let frame = frame::split(frame).unwrap();
-    let accepted =
-        reader::read_with(frame.source, frame.image, Ranges::Believed);
+    let (source, image) = (frame.source, frame.image);
+    let accepted = reader::read_by(source, image, Reading::Believing);
     let accepted = accepted.expect("all but the ranges is right");
     let input = Input::new(&accepted, frame.image);
     let _held = input.supply_widths();
@@ -455,6 +459,10 @@ fn refused_where_the_original_has_no_test() {
             "source `ab`, a comment 0..0, `A` at 1..2",
             one("ab", vec![0..0], name_at(1..2)),
         ),
+        (
+            "source `ab`, comments 1..2 and 0..1, `A` at 2..2",
+            one("ab", vec![1..2, 0..1], name_at(2..2)),
+        ),
     ];
     for (input, frame) in inputs {
         let original = untested(&frame);
@@ -462,5 +470,12 @@ fn refused_where_the_original_has_no_test() {
         let row = format!("| {input} | {original} | {} |", port.trim_end());
         assert!(PAGE.contains(&row), "{row}");
         assert!(port.starts_with("refused "), "{port}");
+        // What the order alone refuses the archive entry answers as the
+        // original does.
+        let archived = program::answer_archived(&frame);
+        let archived = archived.map(|run| format!("`{:?}`", run.text));
+        let by_order = input.contains("comments");
+        assert_eq!(archived.is_ok(), by_order, "{input}");
+        assert!(archived.is_err() || archived == Ok(original), "{input}");
     }
 }

@@ -9,7 +9,7 @@ use judge::{
     frame::Frame,
     generate::{self, Class},
     image::{Tree, chosen, node, text},
-    reader,
+    reader::{self, Reading},
     rows::{self, Row},
     script,
     tree::Input,
@@ -190,7 +190,8 @@ fn tokens_are_those_laid(bytes: &[u8]) -> bool {
     let Ok(Frame { source, image }) = frame::split_any_size(bytes) else {
         return false;
     };
-    let Ok(accepted) = reader::read(source, image) else {
+    let earlier = Reading::Earlier;
+    let Ok(accepted) = reader::read_by(source, image, earlier) else {
         return false;
     };
     let input = Input::new(&accepted, image);

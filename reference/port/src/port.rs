@@ -3,16 +3,16 @@
 
 #[cfg(feature = "stand-in")]
 pub use crate::stand_in::{
-    back, batch, check, columns, count, format, forward, layout, newlines,
-    render, steps, write,
+    back, batch, check, columns, count, format, forward, layout,
+    layout_archived, newlines, render, steps, write,
 };
 
 #[cfg(not(feature = "stand-in"))]
 pub use linked::check;
 #[cfg(all(feature = "calls", not(feature = "stand-in")))]
 pub use linked::{
-    back, batch, columns, count, format, forward, layout, newlines, render,
-    steps, write,
+    back, batch, columns, count, format, forward, layout, layout_archived,
+    newlines, render, steps, write,
 };
 
 /// Those of the editor's crate, which its tests hold to the library.

@@ -3,6 +3,7 @@
 
 mod batch;
 mod moves;
+mod orders;
 mod rules;
 mod steps;
 mod words;
@@ -11,7 +12,10 @@ use std::sync::atomic::{AtomicU8, Ordering};
 
 pub use batch::batch;
 use judge::{
-    calls::{Answer, Given, LayoutState, RenderState, World, layout_call},
+    calls::{
+        Answer, Given, LayoutArgs, LayoutState, RenderState, World,
+        layout_call,
+    },
     driver::{Page, Pen, Stop},
     figures::{self, Counted, Figures, Fraction, MOST_FILES, Tallies},
     frame::Frame,
@@ -25,6 +29,7 @@ use judge::{
     width,
 };
 pub use moves::{back, forward};
+use orders::Entry;
 pub use rules::columns;
 pub use steps::{steps, write};
 use words::respoken;
@@ -291,10 +296,68 @@ pub enum Fault {
     TwoInBatch,
     /// The reader looks for widths in version 2.
     TwoWithWidths,
+    /// The order of comments is forgotten after 8,191 of them.
+    OrderForgotten,
+    /// A comment that starts where the one before ends is refused.
+    EqualityRefused,
+    /// A comment must start at or after the start of the one before.
+    StartsCompared,
+    /// Comments may overlap by a byte.
+    OverlapByOne,
+    /// A first comment at the source's start is refused.
+    FirstOrdered,
+    /// The order is looked at after all other causes of 7.
+    OrderLast,
+    /// It is looked at before all of them.
+    OrderFirst,
+    /// 7 names the pair before.
+    OrderPlace,
+    /// At layout 7 for the order comes before 20.
+    OrderBeforeRule,
+    /// There it comes after 12.
+    OrderAfterState,
+    /// The check reads by the earlier rule.
+    CheckEarlier,
+    /// Layout does.
+    LayoutEarlier,
+    /// A whole file does.
+    WholeEarlier,
+    /// A count does.
+    CountEarlier,
+    /// A batch does.
+    BatchEarlier,
+    /// The steps of an image do.
+    StepsEarlier,
+    /// What the archive entry has begun goes on by the earlier rule.
+    EntryCarried,
+    /// The archive entry is strict.
+    ArchiveStrict,
+    /// The archive entry passes over what else 7 refuses.
+    ArchiveUntested,
+    /// The archive entry puts the comments in order.
+    ArchiveSorted,
+    /// A move forward is strict.
+    ForwardStrict,
+    /// A move back is.
+    BackStrict,
+    /// The writer takes comments in any order.
+    WriterUnordered,
+    /// It forgets the order after 8,191 of them.
+    WriterForgets,
+    /// It refuses a comment where the one before ends.
+    WriterEquality,
+    /// It compares starts.
+    WriterStarts,
+    /// It lets comments overlap by a byte.
+    WriterOverlap,
+    /// It refuses a first comment at the source's start.
+    WriterFirst,
+    /// It finds a comment out of order a step late.
+    LateUnordered,
 }
 
 impl Fault {
-    pub const ALL: [Fault; 128] = [
+    pub const ALL: [Fault; 157] = [
         Fault::CheckPlace,
         Fault::Declarations,
         Fault::CommentsLeft,
@@ -423,6 +486,35 @@ impl Fault {
         Fault::TwoCounted,
         Fault::TwoInBatch,
         Fault::TwoWithWidths,
+        Fault::OrderForgotten,
+        Fault::EqualityRefused,
+        Fault::StartsCompared,
+        Fault::OverlapByOne,
+        Fault::FirstOrdered,
+        Fault::OrderLast,
+        Fault::OrderFirst,
+        Fault::OrderPlace,
+        Fault::OrderBeforeRule,
+        Fault::OrderAfterState,
+        Fault::CheckEarlier,
+        Fault::LayoutEarlier,
+        Fault::WholeEarlier,
+        Fault::CountEarlier,
+        Fault::BatchEarlier,
+        Fault::StepsEarlier,
+        Fault::EntryCarried,
+        Fault::ArchiveStrict,
+        Fault::ArchiveUntested,
+        Fault::ArchiveSorted,
+        Fault::ForwardStrict,
+        Fault::BackStrict,
+        Fault::WriterUnordered,
+        Fault::WriterForgets,
+        Fault::WriterEquality,
+        Fault::WriterStarts,
+        Fault::WriterOverlap,
+        Fault::WriterFirst,
+        Fault::LateUnordered,
     ];
 }
 
@@ -493,7 +585,12 @@ fn render_state(state: &[u64; 7]) -> RenderState {
 }
 
 pub fn check(source: &[u8], image: &[u8], out: &mut [u64; 4]) {
-    match reader::read(source, &moves::with_widths(image)) {
+    let widened = moves::with_widths(image);
+    let given = Given { source, image };
+    let read = orders::strict(Entry::Check, given, |reading| {
+        reader::read_by(source, &widened, reading)
+    });
+    match read {
         Ok(read) => {
             let mut declarations = read.tree.children.len() as u64 - 1;
             declarations += u64::from(planted(Fault::Declarations));
@@ -515,14 +612,54 @@ pub fn layout(
     args: &[u64; 4],
     out: &mut [u64; 11],
 ) {
+    let given = Given { source, image };
+    let args = layout_args(args, false);
+    put_layout(store, state, out, |world| {
+        orders::layout(given, world, args, lay_out)
+    });
+}
+
+/// The same for archived images.
+pub fn layout_archived(
+    source: &[u8],
+    image: &[u8],
+    store: &mut [u32],
+    state: &[u64; 9],
+    args: &[u64; 4],
+    out: &mut [u64; 11],
+) {
+    let given = Given { source, image };
+    let args = layout_args(args, true);
+    put_layout(store, state, out, |world| {
+        orders::layout(given, world, args, lay_out)
+    });
+}
+
+fn layout_args(args: &[u64; 4], archive: bool) -> LayoutArgs {
+    let [stop, close, mode, rule] = args.map(|number| number as usize);
+    LayoutArgs {
+        stop,
+        close: close != 0,
+        mode,
+        rule,
+        archive,
+    }
+}
+
+/// What a layout call does to the store, and its answer.
+fn put_layout(
+    store: &mut [u32],
+    state: &[u64; 9],
+    out: &mut [u64; 11],
+    call: impl FnOnce(&mut World) -> Result<Answer, Refusal>,
+) {
     let mut world = World {
         store: store.to_vec(),
         laying: layout_state(state),
         ..World::default()
     };
-    let given = Given { source, image };
     let before = world.laying.at.next_row;
-    match lay_out(given, &mut world, args.map(|number| number as usize)) {
+    match call(&mut world) {
         Ok(Answer::LaidOut {
             state,
             comments_left,
@@ -547,8 +684,9 @@ pub fn layout(
 fn lay_out(
     given: Given,
     world: &mut World,
-    [stop, close, mode, rule]: [usize; 4],
+    args: LayoutArgs,
 ) -> Result<Answer, Refusal> {
+    let LayoutArgs { close, mode, .. } = args;
     let carried = &mut world.laying;
     if planted(Fault::ModeNotKept) && carried.begun {
         carried.mode = mode;
@@ -556,12 +694,10 @@ fn lay_out(
     if planted(Fault::ModeBeforeBegun) && !carried.begun {
         carried.mode = 0;
     }
-    let close = close != 0;
     let mut right = world.clone();
-    let call = [stop, usize::from(close), mode, rule];
-    let answer = rules::lay_out(given, &mut right, call)?;
+    let answer = rules::lay_out(given, &mut right, args)?;
     let wrong = (close && closes_wrongly(mode))
-        .then(|| close_wrongly(given, world, stop, [mode, rule]));
+        .then(|| close_wrongly(given, world, args));
     if let Some(Some(answer)) = wrong {
         return Ok(answer);
     }
@@ -586,14 +722,18 @@ fn closes_wrongly(mode: usize) -> bool {
 fn close_wrongly(
     given: Given,
     world: &mut World,
-    stop: usize,
-    [mode, rule]: [usize; 2],
+    args: LayoutArgs,
 ) -> Option<Answer> {
+    let LayoutArgs { stop, mode, .. } = args;
     let before = world.clone();
-    let read = reader::read(given.source, given.image).ok()?;
+    let Given { source, image } = given;
+    let read = reader::read_by(source, image, args.reading()).ok()?;
     let comments = read.comments.len();
-    layout_call(given, world, stop, false, mode, rule)
-        .expect("it closes too");
+    let open = LayoutArgs {
+        close: false,
+        ..args
+    };
+    layout_call(given, world, open).expect("it closes too");
     let (image, end, way) = if planted(Fault::OneLeftBehind) {
         (without_last_comment(given.image), stop, mode)
     } else if planted(Fault::LeadingKept) && stop == 0 {
@@ -603,11 +743,15 @@ fn close_wrongly(
     } else {
         (given.image.to_vec(), stop, NEW + OLD - mode)
     };
-    let Given { source, .. } = given;
     let image = &image[..];
     let given = Given { source, image };
     (world.laying.next_declaration, world.laying.mode) = (end, way);
-    let closed = layout_call(given, world, end, true, way, rule);
+    let otherwise = LayoutArgs {
+        stop: end,
+        mode: way,
+        ..args
+    };
+    let closed = layout_call(given, world, otherwise);
     if closed.is_err() || (planted(Fault::LeadingKept) && stop > 0) {
         *world = before;
         return None;
@@ -838,7 +982,10 @@ pub fn format(
     if let Err(refusal) = rules::check_whole(given, rule as usize) {
         return put_refusal(out, refusal);
     }
-    let declarations = match reader::read(source, image) {
+    let read = orders::strict(Entry::Whole, given, |reading| {
+        reader::read_by(source, image, reading)
+    });
+    let declarations = match read {
         Ok(read) => read.tree.children.len() as u64 - 1,
         Err(refusal) => return put_refusal(out, refusal),
     };
@@ -857,8 +1004,11 @@ pub fn format(
     let mut marks = vec![0; MARKS as usize];
     let mut laid = [0; 11];
     let (fresh, store) = ([0; 9], &mut store);
-    let args = [declarations, 1, mode, rule];
-    layout(source, image, store, &fresh, &args, &mut laid);
+    // The order of the comments was looked at.
+    let args = layout_args(&[declarations, 1, mode, rule], true);
+    put_layout(store, &fresh, &mut laid, |world| {
+        lay_out(given, world, args)
+    });
     if laid[0] != 0 {
         return put(out, &laid[..2]);
     }
@@ -913,7 +1063,11 @@ pub fn count(
     if planted(Fault::OneMoreFile) && files == MOST_FILES {
         before.files -= 1;
     }
-    match figures::count(Frame { source, image }, &before) {
+    let given = Given { source, image };
+    let counted = orders::strict(Entry::Count, given, |reading| {
+        figures::count_by(Frame { source, image }, &before, reading)
+    });
+    match counted {
         Ok(counted) => put_counted(out, counted, all.column),
         Err(mut refusal) => {
             if planted(Fault::TwoCounted) && refusal.number == 20 {

@@ -1,7 +1,7 @@
 //! Layout, rendering and the whole run, in the judge's types.
 
 use judge::{
-    calls::{Answer, Given, LayoutState, RenderState},
+    calls::{Answer, Given, LayoutArgs, LayoutState, RenderState},
     choice::Choice,
     driver::{Page, Pen, Stop},
     refusal::Refusal,
@@ -18,15 +18,20 @@ pub struct Formatted {
     pub numbers: u64,
 }
 
-/// A layout call of the port, in a mode and by a rule.
+/// A layout call of the port, at the entry that it names.
 pub fn layout(
     given: Given,
     store: &mut [u32],
     state: &LayoutState,
-    stop: usize,
-    close: bool,
-    [mode, rule]: [usize; 2],
+    args: LayoutArgs,
 ) -> Result<Answer, Refusal> {
+    let LayoutArgs {
+        stop,
+        close,
+        mode,
+        rule,
+        archive,
+    } = args;
     let mut out = Out::<12>::new();
     let numbers = [
         truth(state.begun),
@@ -39,12 +44,17 @@ pub fn layout(
         state.mode as u64,
         state.rule as u64,
     ];
-    port::layout(
+    let entry = match archive {
+        true => port::layout_archived,
+        false => port::layout,
+    };
+    let args = [stop as u64, truth(close), mode as u64, rule as u64];
+    entry(
         given.source,
         given.image,
         store,
         &numbers,
-        &[stop as u64, truth(close), mode as u64, rule as u64],
+        &args,
         out.places(),
     );
     let [comments_left, begun, closed, next, at @ ..] =

@@ -85,7 +85,19 @@ fn items(fault: Fault) -> Vec<Item> {
     if fault as u8 >= Fault::MovedByte as u8 {
         items.sort_by_key(|item| !is_of_moves(item));
     }
+    if fault as u8 >= Fault::OrderForgotten as u8 {
+        items.sort_by_key(from_orders);
+    }
     items
+}
+
+/// What tries the order of comments comes first, then the longest lists.
+fn from_orders(item: &Item) -> u8 {
+    match item {
+        Item::Order(_) | Item::OrderList(_) => 0,
+        Item::Size(_) | Item::StepSize(_) => 1,
+        _ => 2,
+    }
 }
 
 /// What is of version 2 alone, and short.
@@ -165,6 +177,8 @@ fn items_are_repeated_by_their_names() {
     assert_eq!(Item::from_words("fixed-move", 6), Some(Item::FixedMove(6)));
     assert_eq!(Item::from_words("two", 7), Some(Item::Two(7)));
     assert_eq!(Item::from_words("two-list", 8), Some(Item::TwoList(8)));
+    assert_eq!(Item::from_words("order", 9), Some(Item::Order(9)));
+    assert_eq!(Item::from_words("order-list", 1), Some(Item::OrderList(1)));
     assert_eq!(Item::from_words("other", 4), None);
 }
 

@@ -3,10 +3,14 @@
 
 #![cfg(feature = "stand-in")]
 
-use judge::{figures::report::output, generate::report_input};
+use judge::{
+    figures::report::{output, output_by},
+    generate::report_input,
+    reader::Reading,
+};
 use port::compare::{Tally, compare_report};
 
-const SEED: u64 = 5;
+const SEED: u64 = 6;
 const INPUTS: u64 = 300;
 
 /// What a reader must keep of a source.
@@ -112,6 +116,13 @@ fn wrong_lines_are_found() {
         }
     };
     assert!(differences(always) > 0);
+}
+
+/// Files are counted whose comments run backwards.
+#[test]
+fn a_report_by_the_earlier_rule_is_found() {
+    let wrong = |input: &[u8]| output_by(input, Reading::Earlier);
+    assert!(differences(wrong) > 0);
 }
 
 /// Large and small, whole and cut, of none and of many files.

@@ -32,7 +32,7 @@ returns-then-is_empty c =
     simp (
       sym c.source_fits.ensures ∙ c.if-not-source_fits.false,
       checked_well _ (sym c.check.ensures ∙ ap refusal_in c.in_ok-check.was),
-    ) (rw c.at-then-is_empty.ensures (sym (ap outcome (another_refused _ c.args.source.now _ another))))
+    ) (rw c.at-then-is_empty.ensures (sym (ap outcome (another_refused _ _ c.args.source.now _ another))))
 
 pub returns : goal.returns
 unfolding read_with
@@ -40,4 +40,4 @@ returns c =
     simp (
       sym c.source_fits.ensures ∙ c.if-not-source_fits.false,
       checked_well _ (sym c.check.ensures ∙ ap refusal_in c.in_ok-check.was),
-    ) (c.read_image.ensures ∙ ap outcome (one_read _ _ _ c.if-image-version.false))
+    ) (c.read_image.ensures ∙ ap outcome (one_read _ _ _ _ c.if-image-version.false))

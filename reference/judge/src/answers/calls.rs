@@ -2,7 +2,10 @@
 
 use super::{put_bytes, put_long, put_number};
 use crate::{
-    calls::{self, Answer, Call, Given, LayoutState, RenderState, World},
+    calls::{
+        self, Answer, Call, Given, LayoutArgs, LayoutState, RenderState,
+        World,
+    },
     driver::Stop,
     generate::CallCase,
     refusal::Refusal,
@@ -38,15 +41,21 @@ fn put_world(out: &mut Vec<u8>, world: &World) {
     put_render_state(out, &world.rendering);
 }
 
+/// The byte that says at which entry a call is made.
+const LAYOUT: u8 = 0;
+const RENDERING: u8 = 1;
+const ARCHIVE_LAYOUT: u8 = 2;
+
 fn put_call(out: &mut Vec<u8>, call: &Call) {
     match *call {
-        Call::Layout {
+        Call::Layout(LayoutArgs {
             stop,
             close,
             mode,
             rule,
-        } => {
-            out.push(0);
+            archive,
+        }) => {
+            out.push(if archive { ARCHIVE_LAYOUT } else { LAYOUT });
             put_number(out, stop);
             put_number(out, usize::from(close));
             put_number(out, mode);
@@ -58,7 +67,7 @@ fn put_call(out: &mut Vec<u8>, call: &Call) {
             width,
             rule,
         } => {
-            out.push(1);
+            out.push(RENDERING);
             put_number(out, stop);
             put_number(out, room);
             put_number(out, width);

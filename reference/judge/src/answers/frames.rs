@@ -4,18 +4,30 @@ use super::{put_bytes, put_number};
 use crate::{
     driver::{Run, Stop},
     program::{self, Widths},
+    refusal::Refusal,
 };
 
 /// A frame with its answer.
 pub fn answered(frame: &[u8]) -> Vec<u8> {
     let mut out = Vec::new();
     put_bytes(&mut out, frame);
-    put_answer(&mut out, frame);
+    let answer = program::answer(frame, Widths::Supplied);
+    let comments = is_of_comments(&answer);
+    put_answer(&mut out, answer);
+    if comments {
+        put_answer(&mut out, program::answer_archived(frame));
+    }
     out
 }
 
-fn put_answer(out: &mut Vec<u8>, frame: &[u8]) {
-    match program::answer(frame, Widths::Supplied) {
+/// Whether the comments are what refuses a frame, so that the archive entry may
+/// answer otherwise.
+pub fn is_of_comments(answer: &Result<Run, Refusal>) -> bool {
+    matches!(answer, Err(Refusal { number: 7, .. }))
+}
+
+fn put_answer(out: &mut Vec<u8>, answer: Result<Run, Refusal>) {
+    match answer {
         Err(refusal) => {
             out.push(refusal.number);
             out.extend(refusal.place.to_be_bytes());

@@ -7,9 +7,11 @@ use super::{batches, calls, frames, moves, steps, stored};
 use crate::{
     batch::{self, ROW},
     calls::{self as layout_and_rendering, Call, Given},
+    driver::Run,
     generate::{self, CallCase},
     moves::moved,
     program::{self, Widths},
+    refusal::Refusal,
     steps as writer,
 };
 
@@ -105,46 +107,67 @@ pub fn batches_output() -> String {
 /// How often each answer to a call is given, and that no list differs.
 pub fn calls_output() -> String {
     let mut out = String::new();
-    let [mut laid, mut rendered] = [const { Numbers::new() }; 2];
+    let mut calls = Calls::default();
     let mut count = 0;
     for case in lists() {
         count += 1;
-        add_calls(&case, &mut laid, &mut rendered);
+        calls.add(&case);
     }
-    put_numbers(&mut out, "layout calls", &laid);
-    put_numbers(&mut out, "rendering calls", &rendered);
+    put_numbers(&mut out, "layout calls", &calls.laid);
+    put_numbers(&mut out, "rendering calls", &calls.rendered);
+    put_numbers(&mut out, "archive layout calls", &calls.archived);
     put_end(&mut out, "lists", count);
     out
 }
 
-/// How often each answer to a frame is given, and that none differs.
+/// How often each answer to a frame is given, and by the archive entry to one
+/// that is refused for its comments, and that none differs.
 pub fn frames_output() -> String {
     let mut out = String::new();
-    let mut run = Numbers::new();
+    let [mut run, mut archived] = [const { Numbers::new() }; 2];
+    let number = |answer: Result<Run, Refusal>| {
+        answer.err().map_or(0, |refusal| refusal.number)
+    };
     for frame in stored::frames() {
         let answer = program::answer(&frame, Widths::Supplied);
-        let number = answer.err().map_or(0, |refusal| refusal.number);
-        *run.entry(number).or_default() += 1;
+        if frames::is_of_comments(&answer) {
+            let answer = program::answer_archived(&frame);
+            *archived.entry(number(answer)).or_default() += 1;
+        }
+        *run.entry(number(answer)).or_default() += 1;
     }
     put_numbers(&mut out, "frames", &run);
+    put_numbers(&mut out, "archived frames", &archived);
     put_end(&mut out, "frames", run.values().sum());
     out
 }
 
-fn add_calls(case: &CallCase, laid: &mut Numbers, rendered: &mut Numbers) {
-    let given = Given {
-        source: &case.source,
-        image: &case.image,
-    };
-    let mut world = case.world.clone();
-    let answers = layout_and_rendering::run(given, &mut world, &case.calls);
-    for (call, answer) in case.calls.iter().zip(answers) {
-        let numbers = match call {
-            Call::Layout { .. } => &mut *laid,
-            Call::Render { .. } => &mut *rendered,
+/// The answers to calls, by the entry at which they are made.
+#[derive(Default)]
+struct Calls {
+    laid: Numbers,
+    rendered: Numbers,
+    archived: Numbers,
+}
+
+impl Calls {
+    fn add(&mut self, case: &CallCase) {
+        let given = Given {
+            source: &case.source,
+            image: &case.image,
         };
-        let number = answer.err().map_or(0, |refusal| refusal.number);
-        *numbers.entry(number).or_default() += 1;
+        let mut world = case.world.clone();
+        let calls = &case.calls;
+        let answers = layout_and_rendering::run(given, &mut world, calls);
+        for (call, answer) in calls.iter().zip(answers) {
+            let numbers = match call {
+                Call::Layout(args) if args.archive => &mut self.archived,
+                Call::Layout(_) => &mut self.laid,
+                Call::Render { .. } => &mut self.rendered,
+            };
+            let number = answer.err().map_or(0, |refusal| refusal.number);
+            *numbers.entry(number).or_default() += 1;
+        }
     }
 }
 

@@ -86,9 +86,9 @@ fn files() -> [Vec<u8>; 13] {
         known("version-3"),
         of_one("", vec![], node(99, 0..0, [])),
         script::frame(WIDE).expect("a script"),
-        // Refused by 6, 7 and 8.
+        // Refused by 6, 7, for a later comment first, and 8.
         of_one("x", vec![], import(0..2)),
-        of_one("x", vec![1..1], import(0..0)),
+        of_one("xy", vec![1..2, 0..1], import(0..0)),
         too_many_rows(),
         known("comment-alone"),
         // Refused by 20.

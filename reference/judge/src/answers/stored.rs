@@ -24,14 +24,14 @@ pub const FRAMES: [(Class, u64, u64, usize); 8] = [
     (Class::Edges, 1, 900, 700),
     (Class::Damaged, 1, 1_600, 800),
     (Class::Damaged, 2, 80, 4_000),
-    (Class::Sizes, 1, 32, frame::MOST_BYTES + 1),
+    (Class::Sizes, 1, 33, frame::MOST_BYTES + 1),
 ];
 
 /// A way to make lists, with the seed, lists tried, and the most bytes of a
 /// list with its answers that is kept.
 type Lists = (fn(u64, u64) -> CallCase, u64, u64, usize);
 
-pub const LISTS: [Lists; 7] = [
+pub const LISTS: [Lists; 8] = [
     (generate::call_case, 1, 900, 4_000),
     (generate::cut_case, 1, 150, 10_000),
     (generate::foot_case, 1, 180, 2_200),
@@ -40,6 +40,7 @@ pub const LISTS: [Lists; 7] = [
     (generate::unreadable_case, LONG, 1, 70_000),
     (generate::rule_case, 1, 120, 2_000),
     (generate::two_case, 1, 300, 2_000),
+    (generate::order_list, 1, 50, 2_800),
 ];
 
 /// A seed under which the first source is one byte too long.

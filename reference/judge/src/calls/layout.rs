@@ -4,7 +4,7 @@ use super::{Answer, Given, MOST_ROWS, World};
 use crate::{
     driver::{Layout, Stop},
     mode,
-    reader::{self, Accepted},
+    reader::{self, Accepted, Reading},
     refusal::{Refusal, refusal},
     rule,
     tree::Input,
@@ -25,34 +25,45 @@ pub struct LayoutState {
     pub rule: usize,
 }
 
-/// Lays out from where the state stands to before declaration `stop`, closes
-/// by the mode, and measures by the rule.
+/// What a layout call is told.
+#[derive(Clone, Copy, Debug, PartialEq, Eq)]
+pub struct LayoutArgs {
+    /// The declaration to stop before.
+    pub stop: usize,
+    pub close: bool,
+    pub mode: usize,
+    pub rule: usize,
+    /// Request 10: whether it is made at the entry for archived images.
+    pub archive: bool,
+}
+
+impl LayoutArgs {
+    /// How the entry reads.
+    pub fn reading(&self) -> Reading {
+        match self.archive {
+            true => Reading::Earlier,
+            false => Reading::Strict,
+        }
+    }
+}
+
+/// Lays out from where the state stands to before the stop, closes by the
+/// mode, and measures by the rule.
 pub fn layout_call(
     given: Given,
     world: &mut World,
-    stop: usize,
-    close: bool,
-    mode: usize,
-    rule: usize,
+    args: LayoutArgs,
 ) -> Result<Answer, Refusal> {
-    rule::check_for(rule, given.image)?;
-    let accepted = reader::read(given.source, given.image)?;
-    check_state(world, &accepted, stop, close)?;
-    check_mode(&world.laying, mode)?;
-    rule::check_carried(rule, world.laying.rule)?;
-    let input = Input::new(&accepted, given.image);
+    let Given { source, image } = given;
+    rule::check_for(args.rule, image)?;
+    let accepted = reader::read_by(source, image, args.reading())?;
+    check_state(world, &accepted, args.stop, args.close)?;
+    check_mode(&world.laying, args.mode)?;
+    rule::check_carried(args.rule, world.laying.rule)?;
+    let input = Input::new(&accepted, image);
     let _held = input.supply_widths();
     let state = world.laying;
-    let mut layout = Layout::new(&input, state.at, rule);
-    if !state.begun {
-        layout.shebang();
-    }
-    for place in state.next_declaration..stop {
-        layout.declaration(place);
-    }
-    if close {
-        layout.close(mode);
-    }
+    let mut layout = lay_out(&input, &state, args);
     let at = layout.stop();
     if at.next_row > world.room_for_rows() {
         return Err(refusal(8, at.next_row));
@@ -60,16 +71,35 @@ pub fn layout_call(
     world.put_rows(state.at.next_row, &layout.rows);
     world.laying = LayoutState {
         begun: true,
-        closed: close,
-        next_declaration: stop,
+        closed: args.close,
+        next_declaration: args.stop,
         at,
-        mode,
-        rule,
+        mode: args.mode,
+        rule: args.rule,
     };
     Ok(Answer::LaidOut {
         state: world.laying,
         comments_left: accepted.comments.len() - at.comments_placed,
     })
+}
+
+/// The original from where the state stands.
+fn lay_out<'i>(
+    input: &'i Input,
+    state: &LayoutState,
+    args: LayoutArgs,
+) -> Layout<'i> {
+    let mut layout = Layout::new(input, state.at, args.rule);
+    if !state.begun {
+        layout.shebang();
+    }
+    for place in state.next_declaration..args.stop {
+        layout.declaration(place);
+    }
+    if args.close {
+        layout.close(args.mode);
+    }
+    layout
 }
 
 /// Refusal 12, on the mode: one over 1, or another than that of the calls

@@ -8,7 +8,7 @@ mod plain;
 mod render;
 mod row_check;
 
-pub use layout::{LayoutState, layout_call};
+pub use layout::{LayoutArgs, LayoutState, layout_call};
 pub use plain::{plain_run, reads_laid_rows_alone};
 pub use render::{RenderState, render_call};
 
@@ -20,14 +20,7 @@ pub const MOST_ROW_DEPTH: usize = 256;
 /// A call's arguments, but for what it is handed on.
 #[derive(Clone, Copy, Debug, PartialEq, Eq)]
 pub enum Call {
-    /// The declaration to stop before, whether to close, the mode and the
-    /// rule.
-    Layout {
-        stop: usize,
-        close: bool,
-        mode: usize,
-        rule: usize,
-    },
+    Layout(LayoutArgs),
     /// The row to stop before, the bytes of output, the width and the rule.
     Render {
         stop: usize,
@@ -97,12 +90,7 @@ pub fn call(
     call: Call,
 ) -> Result<Answer, Refusal> {
     match call {
-        Call::Layout {
-            stop,
-            close,
-            mode,
-            rule,
-        } => layout_call(given, world, stop, close, mode, rule),
+        Call::Layout(args) => layout_call(given, world, args),
         Call::Render {
             stop,
             room,

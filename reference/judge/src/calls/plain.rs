@@ -1,7 +1,7 @@
 //! The plain run of document 01's demand 3: it keeps how far layout and
 //! rendering came, and nothing that a call answered.
 
-use super::{Answer, Call, Given, World, call};
+use super::{Answer, Call, Given, LayoutArgs, World, call};
 use crate::refusal::Refusal;
 
 /// How far both came, and what the accepted calls chose: the last accepted
@@ -28,7 +28,13 @@ pub fn plain_run(
         let answer = call(given, &mut due(given, store, marks, far), *one);
         if answer.is_ok() {
             match *one {
-                Call::Layout { .. } => far.laid = Some(*one),
+                // What is due doesn't depend on the entry.
+                Call::Layout(args) => {
+                    far.laid = Some(Call::Layout(LayoutArgs {
+                        archive: true,
+                        ..args
+                    }));
+                }
                 Call::Render {
                     stop, width, rule, ..
                 } => {
@@ -83,7 +89,7 @@ pub fn reads_laid_rows_alone(
             Call::Render { stop, .. } => {
                 !accepted || stop <= laid || stop <= from
             }
-            Call::Layout { .. } => true,
+            Call::Layout(_) => true,
         }
     })
 }

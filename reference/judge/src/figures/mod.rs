@@ -7,6 +7,7 @@ use crate::{
     driver::Run,
     frame::Frame,
     program::{self, Widths},
+    reader::Reading,
     refusal::{Refusal, refusal},
 };
 
@@ -176,7 +177,16 @@ pub struct Counted {
 /// Counts one file more, with the program's rows, marks and output: 20 for a
 /// first byte 2, document 01's refusals, then 14.
 pub fn count(frame: Frame, tallies: &Tallies) -> Result<Counted, Refusal> {
-    let run = program::within_limits(frame, Widths::Supplied)?;
+    count_by(frame, tallies, Reading::Strict)
+}
+
+/// The same of an image that is read otherwise.
+pub fn count_by(
+    frame: Frame,
+    tallies: &Tallies,
+    reading: Reading,
+) -> Result<Counted, Refusal> {
+    let run = program::within_limits_by(frame, Widths::Supplied, reading)?;
     if !tallies.accept_one_more() {
         return Err(refusal(14, 0));
     }

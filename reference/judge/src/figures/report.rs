@@ -3,8 +3,8 @@
 
 use std::fmt::Write;
 
-use super::{Figures, Tallies, count};
-use crate::{frame::Frame, refusal::Refusal};
+use super::{Figures, Tallies, count_by};
+use crate::{frame::Frame, reader::Reading, refusal::Refusal};
 
 const HEADS: [&str; 8] = [
     "file", "bytes", "newlines", "column", "given", "wrapped", "placed",
@@ -24,6 +24,11 @@ fn split_first(bytes: &[u8]) -> Option<(Frame<'_>, &[u8])> {
 
 /// The table that is written for this input.
 pub fn output(input: &[u8]) -> String {
+    output_by(input, Reading::Strict)
+}
+
+/// The same of images that are read otherwise.
+pub fn output_by(input: &[u8], reading: Reading) -> String {
     let mut out = String::new();
     put_line(&mut out, HEADS);
     let mut tallies = Tallies::default();
@@ -37,7 +42,7 @@ pub fn output(input: &[u8]) -> String {
             break;
         };
         rest = behind;
-        match count(frame, &tallies) {
+        match count_by(frame, &tallies, reading) {
             Ok(counted) => {
                 tallies = counted.tallies;
                 put_figures(&mut out, &file.to_string(), &counted.figures);

@@ -5,7 +5,7 @@ use crate::{
     frame,
     image::{self, Tree, node},
     random::Random,
-    reader,
+    reader::{self, Reading},
 };
 
 /// A legal frame, damaged in one way or, now and then, in two.
@@ -114,7 +114,8 @@ fn nudge(random: &mut Random, image: &mut [u8], at: usize) {
 /// Adds or takes one at the last byte of a record's length.
 fn nudge_a_length(random: &mut Random, source: &str, image: &mut [u8]) {
     let mut lengths = Vec::new();
-    if let Ok(accepted) = reader::read(source.as_bytes(), image) {
+    let earlier = Reading::Earlier;
+    if let Ok(accepted) = reader::read_by(source.as_bytes(), image, earlier) {
         accepted
             .tree
             .walk(&mut |record| lengths.push(record.at + 3));

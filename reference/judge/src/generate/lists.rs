@@ -1,17 +1,18 @@
 //! Lists of calls to try, and single calls from states of any kind.
 
 use super::{
-    Draft, damaged, edges, feet, modes, random_rows, realistic, widths, wild,
+    Draft, damaged, edges, entries, feet, modes, random_rows, realistic,
+    widths, wild,
 };
 use crate::{
-    calls::{Call, LayoutState, RenderState, World},
+    calls::{Call, LayoutArgs, LayoutState, RenderState, World},
     choice::Choice,
     driver::{Pen, Run, Stop},
     frame::{self, Frame},
     mode::OLD,
     program::{self, Widths},
     random::Random,
-    reader::MOST_SOURCE,
+    reader::{MOST_SOURCE, Reading},
     rows::Row,
     rule::SUPPLIED,
     width::REFERENCE,
@@ -29,18 +30,20 @@ pub struct CallCase {
 /// A case by seed and index.
 pub fn case(seed: u64, index: u64) -> CallCase {
     let random = &mut Random::new(100, seed, index);
-    match random.below(9) {
+    let case = match random.below(9) {
         0 => unreadable(random),
         1 => one_layout(random),
         2 | 3 => one_rendering(random),
         4 => every_declaration(random),
         _ => list(random),
-    }
+    };
+    entries::chosen(case, seed, index)
 }
 
 /// A list that stops at every declaration, by seed and index.
 pub fn cut_case(seed: u64, index: u64) -> CallCase {
-    every_declaration(&mut Random::new(102, seed, index))
+    let case = every_declaration(&mut Random::new(102, seed, index));
+    entries::chosen(case, seed, index)
 }
 
 /// Such a list, or any, on a file with comments after its last declaration,
@@ -48,16 +51,18 @@ pub fn cut_case(seed: u64, index: u64) -> CallCase {
 pub fn foot_case(seed: u64, index: u64) -> CallCase {
     let random = &mut Random::new(106, seed, index);
     let (choice, draft) = (choice(random), feet::draft(random));
-    if random.once_in(2) {
+    let case = if random.once_in(2) {
         at_every_declaration(random, draft, choice)
     } else {
         listed(random, draft, choice)
-    }
+    };
+    entries::chosen(case, seed, index)
 }
 
 /// A source or an image that the reader turns down, by seed and index.
 pub fn unreadable_case(seed: u64, index: u64) -> CallCase {
-    unreadable(&mut Random::new(103, seed, index))
+    let case = unreadable(&mut Random::new(103, seed, index));
+    entries::chosen(case, seed, index)
 }
 
 fn draft(random: &mut Random, width: usize) -> Draft {
@@ -69,10 +74,12 @@ fn draft(random: &mut Random, width: usize) -> Draft {
     }
 }
 
+/// The run of a draft, whose comments may be in any order.
 fn formatted(draft: &Draft, image: &[u8], choice: Choice) -> Option<Run> {
     let source = draft.source.as_bytes();
     let frame = Frame { source, image };
-    program::format_as(frame, Widths::Supplied, choice).ok()
+    let (widths, reading) = (Widths::Supplied, Reading::Earlier);
+    program::format_by(frame, widths, choice, reading).ok()
 }
 
 /// The width of a list: that of `fmt_parsed`, or any.
@@ -190,11 +197,14 @@ pub(super) fn at_every_declaration(
 /// Calls that stop at each declaration in turn.
 fn through(random: &mut Random, run: &Run, choice: Choice) -> Vec<Call> {
     let Choice { width, mode, rule } = choice;
-    let layout = |stop, close| Call::Layout {
-        stop,
-        close,
-        mode,
-        rule,
+    let layout = |stop, close| {
+        Call::Layout(LayoutArgs {
+            stop,
+            close,
+            mode,
+            rule,
+            archive: false,
+        })
     };
     let render = |stop, room| Call::Render {
         stop,
@@ -233,11 +243,14 @@ fn refused_at(
     let Choice { width, mode, rule } = choice;
     let last = run.stops.len() - 1;
     let here = run.stops[place].next_row;
-    let layout = |stop, close, mode| Call::Layout {
-        stop,
-        close,
-        mode,
-        rule,
+    let layout = |stop, close, mode| {
+        Call::Layout(LayoutArgs {
+            stop,
+            close,
+            mode,
+            rule,
+            archive: false,
+        })
     };
     let render = |stop, room, width| Call::Render {
         stop,
@@ -283,12 +296,13 @@ fn layout(
         random.once_in(10)
     };
     *laid = stop;
-    Call::Layout {
+    Call::Layout(LayoutArgs {
         stop,
         close,
         mode: modes::chosen(random, choice.mode),
         rule: choice.rule,
-    }
+        archive: false,
+    })
 }
 
 fn rendering(
@@ -334,12 +348,13 @@ pub(super) fn unreadable(random: &mut Random) -> CallCase {
         image: frame.image.to_vec(),
         world: world(random, 9, 3),
         calls: vec![
-            Call::Layout {
+            Call::Layout(LayoutArgs {
                 stop: 0,
                 close: random.once_in(2),
                 mode: modes::chosen(random, OLD),
                 rule: SUPPLIED,
-            },
+                archive: false,
+            }),
             Call::Render {
                 stop: 0,
                 room: 10,
@@ -378,12 +393,13 @@ pub(super) fn one_layout(random: &mut Random) -> CallCase {
         source: draft.source.into_bytes(),
         image,
         world,
-        calls: vec![Call::Layout {
+        calls: vec![Call::Layout(LayoutArgs {
             stop,
             close,
             mode: modes::chosen(random, mode),
             rule: SUPPLIED,
-        }],
+            archive: false,
+        })],
     }
 }
 

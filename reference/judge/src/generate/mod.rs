@@ -5,11 +5,13 @@ mod batches;
 mod broad;
 mod damaged;
 mod edges;
+mod entries;
 mod feet;
 mod lists;
 mod modes;
 mod move_cases;
 mod moves;
+mod orders;
 mod random_rows;
 mod ranges;
 mod realistic;
@@ -41,6 +43,10 @@ pub use lists::{
 };
 pub use move_cases::{Case as FixedMove, cases as move_cases};
 pub use moves::{Case as MoveCase, case as move_case, two_case, two_frame};
+pub use orders::{
+    Case as OrderCase, Way as OrderWay, case as order_case,
+    list_case as order_list,
+};
 pub use ranges::{RangeCase, case as range_case};
 pub use rendering::cases as rendering_cases;
 pub use report_inputs::input as report_input;

@@ -1,8 +1,8 @@
 //! Images to move between the versions, and files of version 2 to format.
 
 use super::{
-    CallCase, Draft, broad, damaged, edges, feet, lists, realistic, rules,
-    wild,
+    CallCase, Draft, broad, damaged, edges, entries, feet, lists, realistic,
+    rules, wild,
 };
 use crate::{
     choice::Choice,
@@ -88,7 +88,7 @@ pub fn two_case(seed: u64, index: u64) -> CallCase {
         let (source, way) = (&draft.source, random.below(8));
         damaged::damage_image(random, source, &mut case.image, way);
     }
-    case
+    entries::chosen(case, seed, index)
 }
 
 /// A legal file of any class.
@@ -105,7 +105,7 @@ fn draft(random: &mut Random) -> Draft {
 
 /// The image of a draft in a version. In version 1 each text has the width of
 /// Unicode 16.0, but for one in so many.
-fn in_version(
+pub(super) fn in_version(
     random: &mut Random,
     draft: &mut Draft,
     version: Version,

@@ -4,11 +4,12 @@
 
 use super::batches::{damage, file, short};
 use crate::{
+    batch,
     choice::Choice,
     figures::MOST_FILES,
     frame::{Frame, framed},
     random::Random,
-    reader::{MOST_BODY, MOST_SOURCE},
+    reader::{self, MOST_BODY, MOST_SOURCE},
 };
 
 const RANDOM: u64 = 93;
@@ -76,6 +77,14 @@ fn over_image(random: &mut Random) -> Vec<u8> {
     })
 }
 
+/// Whether the reader accepts a small file: not one of no bytes, or whose
+/// comments run backwards.
+fn is_accepted(file: &[u8]) -> bool {
+    let files = batch::split(file).expect("a file");
+    let Frame { source, image } = files[0];
+    reader::read(source, image).is_ok()
+}
+
 /// Files of few bytes, some of which are refused: a little fewer or more of
 /// them are accepted than are counted. One of any class stands last.
 fn many(random: &mut Random, most: usize) -> Vec<Vec<u8>> {
@@ -84,8 +93,7 @@ fn many(random: &mut Random, most: usize) -> Vec<Vec<u8>> {
     let mut left = accepted;
     while left > 0 {
         let file = short(random);
-        // The file of no bytes is refused, the others are not.
-        left -= usize::from(file.len() > 8);
+        left -= usize::from(is_accepted(&file));
         files.push(file);
     }
     files.push(any(random));

@@ -1,6 +1,8 @@
 //! Rules to choose, and lists of calls that choose them.
 
-use super::{CallCase, broad, feet, lists, random_rows, realistic, wild};
+use super::{
+    CallCase, broad, entries, feet, lists, random_rows, realistic, wild,
+};
 use crate::{
     calls::{Call, World},
     choice::Choice,
@@ -65,7 +67,8 @@ pub fn case(seed: u64, index: u64) -> CallCase {
             lists::listed(random, draft, choice)
         }
     };
-    with_rules(random, case, choice.rule)
+    let case = with_rules(random, case, choice.rule);
+    entries::chosen(case, seed, index)
 }
 
 /// Rules for the calls and for states that aren't fresh. Rendering may go by
@@ -81,7 +84,7 @@ pub(super) fn with_rules(
     };
     for call in &mut case.calls {
         match call {
-            Call::Layout { rule, .. } => *rule = chosen(random, laid),
+            Call::Layout(args) => args.rule = chosen(random, laid),
             Call::Render { rule, .. } => *rule = chosen(random, shown),
         }
     }

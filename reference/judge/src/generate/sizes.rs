@@ -1,10 +1,10 @@
 //! Each size of document 01 at its value, and one more.
 
-use std::sync::LazyLock;
+use std::{ops::Range, sync::LazyLock};
 
 use super::CallCase;
 use crate::{
-    calls::{Call, World},
+    calls::{Call, LayoutArgs, World},
     frame::{self, Frame},
     image::{self, Tree, chosen, node, text},
     mode,
@@ -47,12 +47,13 @@ impl Case {
         // A refused image is refused at any stop.
         let [declarations, rows] =
             run.map_or([0, 0], |run| [run.stops.len() - 1, run.rows.len()]);
-        let layout = Call::Layout {
+        let layout = Call::Layout(LayoutArgs {
             stop: declarations,
             close: true,
             mode: mode::OLD,
             rule: rule::SUPPLIED,
-        };
+            archive: false,
+        });
         let rendering = Call::Render {
             stop: rows,
             room: program::OUTPUT,
@@ -91,6 +92,7 @@ fn make_cases() -> Vec<Case> {
         let refusal = if more == 1 { 3 } else { 10 };
         cases.push(body(reader::MOST_BODY + more, refusal));
     }
+    cases.push(last_too_early(reader::MOST_COMMENTS));
     cases
 }
 
@@ -131,11 +133,27 @@ pub(super) fn body_tree(size: usize) -> Tree {
     with_shebang(size + reader::HEADER - SHEBANG_IMAGE)
 }
 
+/// Comments of a byte each, every one where the one before ends.
 fn comments(count: usize, refusal: u8) -> Case {
+    let comments: Vec<_> = (0..count).map(|at| at..at + 1).collect();
+    let name = format!("{count} comments");
+    of_comments(name, &comments, refusal)
+}
+
+/// The same but for the last, which starts before the end of the one before.
+fn last_too_early(count: usize) -> Case {
+    let last = count - 1;
+    let mut comments: Vec<_> = (0..count).map(|at| at..at + 1).collect();
+    comments[last].start -= 1;
+    let name = format!("{count} comments, the last too early");
+    of_comments(name, &comments, 7)
+}
+
+fn of_comments(name: String, comments: &[Range<usize>], refusal: u8) -> Case {
     Case {
-        name: format!("{count} comments"),
-        source: b"//".to_vec(),
-        image: image::write(&vec![0..2; count], &tree(vec![])),
+        name,
+        source: vec![b'/'; comments.len()],
+        image: image::write(comments, &tree(vec![])),
         refusal,
     }
 }

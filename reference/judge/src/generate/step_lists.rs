@@ -22,6 +22,10 @@ pub fn list(seed: u64, index: u64) -> Vec<u8> {
         1 => edges::draft(random),
         _ => wild::draft(random),
     };
+    // Comments out of order would hide all that is wrong behind them.
+    if !index.is_multiple_of(8) {
+        draft.comments = wild::in_order(&draft.comments);
+    }
     if random.once_in(8) {
         return joined(&of_draft(&draft));
     }
@@ -45,7 +49,7 @@ fn damage_draft(random: &mut Random, draft: &mut Draft) {
 }
 
 /// The steps of a draft, which need not be legal.
-fn of_draft(draft: &Draft) -> Vec<Step> {
+pub(super) fn of_draft(draft: &Draft) -> Vec<Step> {
     let comments = draft.comments.iter().map(|span| Step::Comment {
         start: span.start as u32,
         end: span.end as u32,
@@ -225,15 +229,22 @@ fn damage_comments(random: &mut Random, steps: &mut Vec<Step>) {
     };
     let comment = Step::Comment { start, end };
     if random.once_in(12) {
-        let start = 0;
-        let some = Step::Comment { start, end: 1 };
         let most = random.between(MOST_COMMENTS - 1, MOST_COMMENTS + 1);
-        steps.splice(0..comments, vec![some; most]);
+        steps.splice(0..comments, numbered_comments(most));
     } else if random.once_in(4) {
         steps.insert(random.between(comments, steps.len() - 1), comment);
     } else {
         steps.insert(random.between(0, comments), comment);
     }
+}
+
+/// So many comments of a byte each, every one where the one before ends.
+pub(super) fn numbered_comments(count: usize) -> Vec<Step> {
+    let comment = |start| Step::Comment {
+        start,
+        end: start + 1,
+    };
+    (0..count as u32).map(comment).collect()
 }
 
 /// Damage that takes no notice of steps, or hits a step's first byte or the

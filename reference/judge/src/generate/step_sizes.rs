@@ -2,7 +2,10 @@
 
 use std::sync::LazyLock;
 
-use super::{sizes, step_lists::of_tree};
+use super::{
+    sizes,
+    step_lists::{numbered_comments, of_tree},
+};
 use crate::{
     reader::{self, MOST_BODY, MOST_COMMENTS},
     steps::{Step, joined},
@@ -33,15 +36,30 @@ fn make_cases() -> Vec<Case> {
             cases.push(deep(shape, depth, past(16)));
         }
     }
+    cases.push(last_too_early(MOST_COMMENTS));
     cases
 }
 
+/// Comments of a byte each, every one where the one before ends.
 fn comments(count: usize, refusal: u8) -> Case {
-    let comment = Step::Comment { start: 0, end: 1 };
-    let mut steps = vec![comment; count];
+    let name = format!("{count} comments");
+    of_comments(name, numbered_comments(count), refusal)
+}
+
+/// The same but for the last, which starts before the end of the one before.
+fn last_too_early(count: usize) -> Case {
+    let mut steps = numbered_comments(count);
+    if let Some(Step::Comment { start, .. }) = steps.last_mut() {
+        *start -= 1;
+    }
+    let name = format!("{count} comments, the last too early");
+    of_comments(name, steps, 16)
+}
+
+fn of_comments(name: String, mut steps: Vec<Step>, refusal: u8) -> Case {
     of_tree(&mut steps, &sizes::tree(vec![]));
     Case {
-        name: format!("{count} comments"),
+        name,
         list: joined(&steps),
         refusal,
     }

@@ -53,6 +53,11 @@ pub fn draft(random: &mut Random) -> Draft {
         1 => chain(&mut shapes),
         _ => shapes.tree(),
     };
+    // Of lists of an odd number none runs backwards.
+    let comments = match comments.len() % 2 {
+        0 => comments,
+        _ => in_order(&comments),
+    };
     Draft {
         source,
         comments,
@@ -60,12 +65,22 @@ pub fn draft(random: &mut Random) -> Draft {
     }
 }
 
+/// The ends of comments in their order, paired anew: each comment starts at or
+/// after the end of the one before. There may be fewer.
+pub(super) fn in_order(comments: &[Range<usize>]) -> Vec<Range<usize>> {
+    let ends = comments.iter().flat_map(|one| [one.start, one.end]);
+    let mut ends: Vec<usize> = ends.collect();
+    ends.sort_unstable();
+    let pairs = ends.chunks_exact(2).map(|pair| pair[0]..pair[1]);
+    pairs.filter(|comment| !comment.is_empty()).collect()
+}
+
 fn pieces(random: &mut Random, most: usize) -> String {
     let count = random.between(0, most);
     (0..count).map(|_| *random.pick(&PIECES)).collect()
 }
 
-fn boundaries(source: &str) -> Vec<usize> {
+pub(super) fn boundaries(source: &str) -> Vec<usize> {
     let starts = source.char_indices().map(|(at, _)| at);
     starts.chain([source.len()]).collect()
 }

@@ -6,8 +6,8 @@ mod of_image;
 mod writer;
 
 pub use list::{Step, joined, split};
-pub use of_image::{of_image, of_record};
-pub use writer::{Cause, Contents, Fault, follow};
+pub use of_image::{of_image, of_read, of_record};
+pub use writer::{Cause, Contents, Fault, follow, follow_by};
 
 use crate::{
     image,

@@ -5,21 +5,27 @@ use std::ops::Range;
 
 use super::Step;
 use crate::{
-    reader::{self, Payload, Record, Version},
+    reader::{self, Accepted, Payload, Reading, Record, Version},
     refusal::Refusal,
 };
 
 /// The steps of an image of version 1 that is read with its source; refusals
 /// 1 to 7.
 pub fn of_image(source: &[u8], image: &[u8]) -> Result<Vec<Step>, Refusal> {
-    let read = reader::read_version(source, image, Version::One)?;
+    let (one, strict) = (Version::One, Reading::Strict);
+    let read = reader::read_version(source, image, one, strict)?;
+    Ok(of_read(&read))
+}
+
+/// The same of what was read.
+pub fn of_read(read: &Accepted) -> Vec<Step> {
     let comments = read.comments.iter().map(|comment| {
         let (start, end) = numbers(comment);
         Step::Comment { start, end }
     });
     let mut steps: Vec<Step> = comments.collect();
     of_record(&mut steps, &read.tree);
-    Ok(steps)
+    steps
 }
 
 /// A record is opened, gets its payload and its children, and is closed.

@@ -7,7 +7,7 @@ use super::{Step, list::Unread};
 use crate::{
     grammar::{self, Child, Payload, Place},
     image::{Tree, node},
-    reader::{MOST_COMMENTS, MOST_DEPTH},
+    reader::{MOST_COMMENTS, MOST_DEPTH, Reading, comes_after},
 };
 
 /// Why 16 is given.
@@ -21,6 +21,8 @@ pub enum Cause {
     CommentTooMany,
     CommentEmpty,
     CommentReversed,
+    /// One that starts before the end of the one before (request 10).
+    CommentUnordered,
     /// A comment after the first other step.
     CommentLate,
     /// A kind that may not stand there.
@@ -52,12 +54,16 @@ pub enum Cause {
 }
 
 impl Cause {
-    pub const ALL: [(Cause, &str); 21] = [
+    pub const ALL: [(Cause, &str); 22] = [
         (Cause::Unknown, "unknown step"),
         (Cause::CutOff, "cut off"),
         (Cause::CommentTooMany, "8,193rd comment"),
         (Cause::CommentEmpty, "empty comment"),
         (Cause::CommentReversed, "reversed comment"),
+        (
+            Cause::CommentUnordered,
+            "comment before the end of the one before",
+        ),
         (Cause::CommentLate, "comment after another step"),
         (Cause::KindWrong, "kind wrong there"),
         (Cause::SpanReversed, "reversed span"),
@@ -93,7 +99,12 @@ pub struct Contents {
 
 /// Follows a list to its end, or to the first step at fault.
 pub fn follow(list: &[u8]) -> Result<Contents, Fault> {
-    let mut writer = Writer::default();
+    follow_by(list, Reading::Strict)
+}
+
+/// The same where comments may be in any order, if they are not read strictly.
+pub fn follow_by(list: &[u8], reading: Reading) -> Result<Contents, Fault> {
+    let mut writer = Writer::new(reading);
     let mut place = 0;
     while place < list.len() {
         let fault = |cause| Fault { cause, place };
@@ -112,8 +123,8 @@ pub fn follow(list: &[u8]) -> Result<Contents, Fault> {
 }
 
 /// What was said so far.
-#[derive(Default)]
 struct Writer {
+    reading: Reading,
     comments: Vec<Range<usize>>,
     /// Records that are not closed yet, outermost first.
     open: Vec<Open>,
@@ -143,6 +154,15 @@ impl Open {
 }
 
 impl Writer {
+    fn new(reading: Reading) -> Self {
+        Writer {
+            reading,
+            comments: Vec::new(),
+            open: Vec::new(),
+            tree: None,
+        }
+    }
+
     fn take(&mut self, step: Step) -> Result<(), Cause> {
         if self.tree.is_some() {
             return Err(Cause::AfterTheEnd);
@@ -171,6 +191,10 @@ impl Writer {
         }
         if span.start > span.end {
             return Err(Cause::CommentReversed);
+        }
+        let strict = self.reading == Reading::Strict;
+        if strict && !comes_after(&self.comments, &span) {
+            return Err(Cause::CommentUnordered);
         }
         self.comments.push(span);
         Ok(())

@@ -6,7 +6,8 @@ use port::compare::{Item, Plan, Tally, one};
 
 const USAGE: &str = "\
 usage: compare SEED FRAMES [LISTS [FILES [STEPS [BATCHES [REPORTS [MOVES]]]]]]
-           FRAMES frames of each class, with widths, with comments at the foot and with wide characters, LISTS lists of calls of each sort,
+           FRAMES frames of each class, with widths, with comments at the foot, with wide characters and with comments in any order,
+           LISTS lists of calls of each sort,
            FILES files counted, STEPS images to steps and back, and as many lists of steps, BATCHES batches,
            REPORTS inputs of the program report, MOVES images forward to version 2 and back, and as many of version 2
        compare KIND SEED INDEX
@@ -53,7 +54,7 @@ fn compare(words: &[&str]) -> Option<Tally> {
         };
         println!(
             "{} frames of each class, with widths, with comments at the \
-             foot and with wide characters, {} lists of each sort, {} files counted, {} images to \
+             foot, with wide characters and with comments in any order, {} lists of each sort, {} files counted, {} images to \
              steps and back, {} lists of steps, {} batches, {} reports, {} images forward and back",
             plan.frames,
             plan.lists,

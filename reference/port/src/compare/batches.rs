@@ -34,7 +34,11 @@ pub fn compare_fixed(tally: &mut Tally, place: usize) {
     compare_case(tally, "batches, fixed list", &case.batch);
 }
 
-fn compare_case(tally: &mut Tally, heading: &str, case: &BatchCase) {
+pub(super) fn compare_case(
+    tally: &mut Tally,
+    heading: &str,
+    case: &BatchCase,
+) {
     let BatchCase { buffer, choice } = case;
     let all = usize::MAX;
     let due = batch::batch(buffer, *choice, all, all);

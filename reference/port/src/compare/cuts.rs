@@ -1,15 +1,18 @@
 //! A file laid out with a stop before each declaration, then rendered with a
 //! stop at the same rows; and the whole run with the program's sizes. All of
-//! it in both modes, and by each rule.
+//! it in both modes, and by each rule. Each layout call is made at both
+//! entries: the strict one answers as that for archived images, or refuses the
+//! file for the order of its comments.
 
 use judge::{
-    calls::{Answer, Given, LayoutState, RenderState},
+    calls::{Answer, Given, LayoutArgs, LayoutState, RenderState},
     choice::Choice,
     contents::{Contents, Place},
     driver::{Page, Run, Shown},
     frame::Frame,
     mode::{NEW, OLD},
     program::{self, OUTPUT, Widths},
+    reader::Reading,
     refusal::{Refusal, refusal},
     rows::{self, Row},
     rule::{LEGAL, SUPPLIED, UNICODE_15_1, UNICODE_16_0},
@@ -31,8 +34,8 @@ pub fn compare(tally: &mut Tally, class: &str, frame: Frame, width: usize) {
     };
     for (mode, rule) in ways(image) {
         let choice = Choice { width, mode, rule };
-        let run = program::format_as(frame, Widths::Supplied, choice);
-        compare_as(tally, class, &file, choice, run);
+        let strict = program::format_as(frame, Widths::Supplied, choice);
+        compare_as(tally, class, &file, choice, strict);
     }
     compare_illegal(tally, &file, frame);
 }
@@ -67,9 +70,9 @@ fn compare_as(
     class: &str,
     file: &File,
     choice: Choice,
-    run: Result<Run, Refusal>,
+    strict: Result<Run, Refusal>,
 ) {
-    let due = run.as_ref().map_err(|refusal| *refusal).and_then(|run| {
+    let due = strict.as_ref().map_err(|refusal| *refusal).and_then(|run| {
         program::fits(run).map(|()| Formatted {
             bytes: run.text.len() as u64,
             comments_left: run.comments_left as u64,
@@ -84,18 +87,49 @@ fn compare_as(
         rule => format!(", rule {rule}"),
     };
     tally.count(&format!("whole run, {class}{mode}{rule}"), number);
-    compare_whole(tally, file, choice, run.as_ref().ok(), due);
-    match run {
+    compare_whole(tally, file, choice, strict.as_ref().ok(), due);
+    let refusal = strict.as_ref().err().copied();
+    let archived = archived(file.given, choice, strict);
+    if let Some(Refusal { number: 7, .. }) = refusal {
+        let number = archived.as_ref().err().map_or(0, |other| other.number);
+        tally.count(&format!("archived, {class}{mode}{rule}"), number);
+    }
+    match archived {
         // A layout call has no width.
         Err(Refusal { number: 15, .. }) => {}
-        Err(refusal) => {
-            compare_refused(tally, file.given, choice, refusal);
+        Err(other) => {
+            let both = [refusal.unwrap_or(other), other];
+            compare_refused(tally, file.given, choice, both);
         }
-        Ok(run) => compare_pieces(tally, file, choice, &run),
+        Ok(run) => compare_pieces(tally, file, choice, &run, refusal),
     }
 }
 
-fn compare_pieces(tally: &mut Tally, file: &File, choice: Choice, run: &Run) {
+/// The run of an image that is read by the earlier rule. It refuses no more,
+/// and by 7 less.
+fn archived(
+    given: Given,
+    choice: Choice,
+    strict: Result<Run, Refusal>,
+) -> Result<Run, Refusal> {
+    let Given { source, image } = given;
+    match strict {
+        Err(Refusal { number: 7, .. }) => {
+            let frame = Frame { source, image };
+            let (widths, earlier) = (Widths::Supplied, Reading::Earlier);
+            program::format_by(frame, widths, choice, earlier)
+        }
+        _ => strict,
+    }
+}
+
+fn compare_pieces(
+    tally: &mut Tally,
+    file: &File,
+    choice: Choice,
+    run: &Run,
+    backwards: Option<Refusal>,
+) {
     let contents = file.contents.as_ref().expect("the reader accepts it");
     texts::expect_run(tally, contents, choice.mode, run);
     let mut cut = Cut {
@@ -104,6 +138,7 @@ fn compare_pieces(tally: &mut Tally, file: &File, choice: Choice, run: &Run) {
         contents,
         choice,
         run,
+        backwards,
         store: junk_cells((run.rows.len() + 2) * Row::CELLS + 4),
         marks: junk_bytes(run.marks.len() + 3),
     };
@@ -155,20 +190,30 @@ fn compare_illegal(tally: &mut Tally, file: &File, frame: Frame) {
     }
 }
 
-/// A layout call that the reader refuses.
+/// Layout calls that the reader refuses, at the strict entry and at that for
+/// archived images.
 fn compare_refused(
     tally: &mut Tally,
     given: Given,
     choice: Choice,
-    refusal: Refusal,
+    refusals: [Refusal; 2],
 ) {
-    let chosen = [choice.mode, choice.rule];
-    let mut store = junk_cells(20);
-    let due_store = store.clone();
-    let fresh = LayoutState::default();
-    let got = crate::layout(given, &mut store, &fresh, 0, false, chosen);
-    let _ = tally.expect("a refused layout", &Err(refusal), &got)
-        && expect_store(tally, "a refused layout", &due_store, &store);
+    for (archive, refusal) in [false, true].into_iter().zip(refusals) {
+        let args = LayoutArgs {
+            stop: 0,
+            close: false,
+            mode: choice.mode,
+            rule: choice.rule,
+            archive,
+        };
+        let what = format!("a refused layout, {args:?}");
+        let mut store = junk_cells(20);
+        let due_store = store.clone();
+        let fresh = LayoutState::default();
+        let got = crate::layout(given, &mut store, &fresh, args);
+        let _ = tally.expect(&what, &Err(refusal), &got)
+            && expect_store(tally, &what, &due_store, &store);
+    }
 }
 
 /// What a rendering call to one of the stops gives.
@@ -186,6 +231,8 @@ struct Cut<'c> {
     contents: &'c Contents<'c>,
     choice: Choice,
     run: &'c Run,
+    /// What the strict entry answers, where the comments run backwards.
+    backwards: Option<Refusal>,
     store: Vec<u32>,
     marks: Vec<u8>,
 }
@@ -237,33 +284,70 @@ impl Cut<'_> {
             comments_left: comments - due.at.comments_placed,
         };
         let what = format!("layout from {state:?}");
-        let got = crate::layout(
-            self.given,
-            &mut self.store,
-            state,
-            due.next_declaration,
-            due.closed,
-            [self.choice.mode, self.choice.rule],
-        );
+        let args = self.args(due.next_declaration, due.closed);
+        let before = *state;
         *state = due;
-        let right = self.tally.expect(&what, &Ok(answer), &got)
-            && expect_store(self.tally, &what, due_store, &self.store);
-        right.then_some(())
+        let cells = self.store.len();
+        self.at_both(&what, &before, args, cells, (Ok(answer), due_store))
+    }
+
+    /// What a layout call of this choice is told.
+    fn args(&self, stop: usize, close: bool) -> LayoutArgs {
+        LayoutArgs {
+            stop,
+            close,
+            mode: self.choice.mode,
+            rule: self.choice.rule,
+            archive: false,
+        }
+    }
+
+    /// A layout call in so many cells of the store: at the strict entry, and
+    /// from the same store at that for archived images.
+    fn at_both(
+        &mut self,
+        what: &str,
+        state: &LayoutState,
+        args: LayoutArgs,
+        cells: usize,
+        (answer, due_store): (Result<Answer, Refusal>, &[u32]),
+    ) -> Option<()> {
+        let before = self.store.clone();
+        for (archive, due) in [(false, self.strict(answer)), (true, answer)] {
+            self.store.clone_from(&before);
+            let args = LayoutArgs { archive, ..args };
+            let due_store = if due.is_ok() { due_store } else { &before };
+            let what = format!("{what}, archive {archive}");
+            let store = &mut self.store[..cells];
+            let got = crate::layout(self.given, store, state, args);
+            let right = self.tally.expect(&what, &due, &got)
+                && expect_store(self.tally, &what, due_store, &self.store);
+            if !right {
+                return None;
+            }
+        }
+        Some(())
+    }
+
+    /// What the strict entry answers where that for archived images answers
+    /// this: 7 where the comments run backwards, but after 20.
+    fn strict(
+        &self,
+        answer: Result<Answer, Refusal>,
+    ) -> Result<Answer, Refusal> {
+        match (self.backwards, answer) {
+            (Some(_), Err(Refusal { number: 20, .. })) | (None, _) => answer,
+            (Some(refusal), _) => Err(refusal),
+        }
     }
 
     /// Closing with room for one row too few: 8, and no cell is changed.
     fn one_row_short(&mut self, state: &LayoutState) -> Option<()> {
         let rows = self.run.rows.len();
-        let before = self.store.clone();
-        let room = &mut self.store[..rows * Row::CELLS - 1];
-        let stop = state.next_declaration;
-        let chosen = [self.choice.mode, self.choice.rule];
-        let got = crate::layout(self.given, room, state, stop, true, chosen);
-        let what = "layout one row short";
+        let cells = rows * Row::CELLS - 1;
+        let args = self.args(state.next_declaration, true);
         let due = Err(refusal(8, rows));
-        let right = self.tally.expect(what, &due, &got)
-            && expect_store(self.tally, what, &before, &self.store);
-        right.then_some(())
+        self.at_both("layout one row short", state, args, cells, (due, &[]))
     }
 
     /// Another mode than the carried one, legal or not: 12, and no cell is
@@ -302,14 +386,16 @@ impl Cut<'_> {
         number: u8,
     ) -> Option<()> {
         let stop = state.next_declaration;
-        let close = stop + 1 == self.run.stops.len();
-        let before = self.store.clone();
-        let (given, store) = (self.given, &mut self.store);
-        let got = crate::layout(given, store, state, stop, close, chosen);
+        let [mode, rule] = chosen;
+        let args = LayoutArgs {
+            mode,
+            rule,
+            ..self.args(stop, stop + 1 == self.run.stops.len())
+        };
         let what = format!("layout by mode and rule {chosen:?}");
-        let right = self.tally.expect(&what, &Err(refusal(number, 0)), &got)
-            && expect_store(self.tally, &what, &before, &self.store);
-        right.then_some(())
+        let due = Err(refusal(number, 0));
+        let cells = self.store.len();
+        self.at_both(&what, state, args, cells, (due, &[]))
     }
 
     /// Renders to the row of each stop in turn, then to the end.

@@ -37,7 +37,9 @@ pub fn compare(tally: &mut Tally, seed: u64, count: u64) {
     for file in &files {
         let before = tallies(random);
         let heading = "files, tallies of all sorts";
-        if let Ok(counted) = count_one(tally, heading, file, &before) {
+        let (name, frame) = (&file.name, file.frame());
+        let counted = count_one(tally, heading, name, frame, &before);
+        if let Ok(counted) = counted {
             expect_text(tally, file, counted.figures);
         }
     }
@@ -62,7 +64,8 @@ fn in_a_row(
 ) -> Tallies {
     let mut before = Tallies::default();
     for file in files {
-        let answer = count_one(tally, heading, file, &before);
+        let (name, frame) = (&file.name, file.frame());
+        let answer = count_one(tally, heading, name, frame, &before);
         numbers.push(answer.err().map_or(0, |refusal| refusal.number));
         before = answer.map_or(before, |counted| counted.tallies);
     }
@@ -90,17 +93,18 @@ fn expect_text(tally: &mut Tally, file: &File, figures: Figures) {
 }
 
 /// Both sides on one file; the port's answer.
-fn count_one(
+pub(super) fn count_one(
     tally: &mut Tally,
     heading: &str,
-    file: &File,
+    name: &str,
+    frame: Frame,
     before: &Tallies,
 ) -> Result<Counted, Refusal> {
-    let Frame { source, image } = file.frame();
-    let due = figures::count(file.frame(), before);
+    let Frame { source, image } = frame;
+    let due = figures::count(frame, before);
     tally.count(heading, due.err().map_or(0, |refusal| refusal.number));
     let got = crate::count(Given { source, image }, before);
-    tally.expect(&format!("{heading}, {}", file.name), &due, &got);
+    tally.expect(&format!("{heading}, {name}"), &due, &got);
     got
 }
 

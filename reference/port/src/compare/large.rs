@@ -1,7 +1,7 @@
 //! Stores about as large as rendering takes: 2,097,152 rows, and one more.
 
 use judge::{
-    calls::{Call, LayoutState, MOST_ROWS, World},
+    calls::{Call, LayoutArgs, LayoutState, MOST_ROWS, World},
     driver::Stop,
     generate::CallCase,
     image::{self, node},
@@ -29,12 +29,13 @@ pub fn numbered(place: usize) -> CallCase {
         },
         ..LayoutState::default()
     };
-    let close = Call::Layout {
+    let close = Call::Layout(LayoutArgs {
         stop: 0,
         close: true,
         mode: OLD,
         rule: SUPPLIED,
-    };
+        archive: false,
+    });
     let fresh = LayoutState::default();
     match place {
         0 => case(flat(), fresh, render(MOST_ROWS, SUPPLIED)),

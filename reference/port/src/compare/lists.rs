@@ -1,7 +1,10 @@
 //! Lists of calls, every buffer compared whole after every call.
 
 use judge::{
-    calls::{self, Answer, Call, Given, LayoutState, RenderState, World},
+    calls::{
+        self, Answer, Call, Given, LayoutArgs, LayoutState, RenderState,
+        World,
+    },
     contents::{Contents, Place},
     driver::Page,
     frame::Frame,
@@ -110,7 +113,8 @@ impl<'l> List<'l> {
         let laid = self.due.laying.at.next_row;
         let answer = calls::call(self.given, &mut self.due, one);
         let (kind, room) = match one {
-            Call::Layout { .. } => ("layout", 0),
+            Call::Layout(args) if args.archive => ("archive layout", 0),
+            Call::Layout(_) => ("layout", 0),
             Call::Render { room, .. } => ("rendering", room),
         };
         let number = answer.err().map_or(0, |refusal| refusal.number);
@@ -202,14 +206,8 @@ fn port_call(
 ) -> Result<Answer, Refusal> {
     let World { store, marks, .. } = world;
     match one {
-        Call::Layout {
-            stop,
-            close,
-            mode,
-            rule,
-        } => {
-            let chosen = [mode, rule];
-            crate::layout(given, store, &world.laying, stop, close, chosen)
+        Call::Layout(args) => {
+            crate::layout(given, store, &world.laying, args)
         }
         Call::Render {
             stop, width, rule, ..
@@ -267,8 +265,8 @@ pub fn stretched(case: &CallCase, seed: u64, index: u64) -> CallCase {
         }
         13 => {
             for call in &mut case.calls[which..] {
-                if let Call::Layout { mode, .. } = call {
-                    *mode = far;
+                if let Call::Layout(args) = call {
+                    args.mode = far;
                 }
             }
         }
@@ -280,16 +278,14 @@ pub fn stretched(case: &CallCase, seed: u64, index: u64) -> CallCase {
         16 => {
             for call in &mut case.calls[which..] {
                 match call {
-                    Call::Layout { rule, .. } | Call::Render { rule, .. } => {
-                        *rule = far;
-                    }
+                    Call::Layout(LayoutArgs { rule, .. })
+                    | Call::Render { rule, .. } => *rule = far,
                 }
             }
         }
         _ => match &mut case.calls[which] {
-            Call::Layout { stop, .. } | Call::Render { stop, .. } => {
-                *stop = far;
-            }
+            Call::Layout(LayoutArgs { stop, .. })
+            | Call::Render { stop, .. } => *stop = far,
         },
     }
     case

@@ -18,6 +18,8 @@ mod lists;
 #[cfg(feature = "calls")]
 mod moves;
 #[cfg(feature = "calls")]
+mod orders;
+#[cfg(feature = "calls")]
 mod points;
 #[cfg(feature = "calls")]
 mod ranges;

@@ -10,7 +10,7 @@ use judge::{
     moves::{self, Text, Way},
     program::{self, Widths},
     random::Random,
-    reader::{self, Version},
+    reader::{self, Reading, Version},
     refusal::{Refusal, refusal},
     rule::UNICODE_16_0,
     width::REFERENCE,
@@ -73,7 +73,7 @@ pub fn compare_fixed(tally: &mut Tally, place: usize) {
 
 /// Both moves of an image, whatever its version: the answer and the output,
 /// in rooms of several sizes.
-fn compare_ways(
+pub(super) fn compare_ways(
     tally: &mut Tally,
     heading: &str,
     source: &[u8],
@@ -104,7 +104,8 @@ fn steps_speak_of_version_1(tally: &mut Tally, source: &[u8], image: &[u8]) {
 /// The image with the widths of Unicode 16.0 in place of its own, and its
 /// texts; `None` where the reader refuses it.
 fn with_widths(source: &[u8], image: &[u8]) -> Option<(Vec<u8>, Vec<Text>)> {
-    let read = reader::read_version(source, image, Version::One).ok()?;
+    let (one, earlier) = (Version::One, Reading::Earlier);
+    let read = reader::read_version(source, image, one, earlier).ok()?;
     let texts = moves::texts(&read);
     let mut image = image.to_vec();
     for text in &texts {

@@ -23,7 +23,7 @@ pub fn compare_size(tally: &mut Tally, place: usize) {
     compare_list(tally, "steps, sizes", &case.list);
 }
 
-fn compare_list(tally: &mut Tally, heading: &str, list: &[u8]) {
+pub(super) fn compare_list(tally: &mut Tally, heading: &str, list: &[u8]) {
     let due = steps::write(list, usize::MAX);
     let number = due.as_ref().err().map_or(0, |refusal| refusal.number);
     tally.count(heading, number);

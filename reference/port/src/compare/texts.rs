@@ -9,7 +9,7 @@ use judge::{
     frame::Frame,
     holds::{Fault, Pieces},
     mode::NEW,
-    reader,
+    reader::{self, Reading},
 };
 
 use super::Tally;
@@ -43,9 +43,10 @@ pub const BATCHES: &str = "files of batches, the port's";
 pub const SINGLES: &str = "files of batches by single calls, the port's";
 pub const COUNTED: &str = "files counted, the port's";
 
-/// What a file says, if the reader accepts it.
+/// What a file says, if the archive entry accepts it.
 pub fn contents(frame: Frame<'_>) -> Option<Contents<'_>> {
-    let accepted = reader::read(frame.source, frame.image);
+    let Frame { source, image } = frame;
+    let accepted = reader::read_by(source, image, Reading::Earlier);
     accepted.ok().map(|accepted| Contents::of(&accepted))
 }
 

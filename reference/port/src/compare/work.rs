@@ -99,13 +99,20 @@ pub enum Item {
     /// A list on an image of version 2.
     #[cfg(feature = "calls")]
     TwoList(u64),
+    /// A file whose comments are in order or not.
+    #[cfg(feature = "calls")]
+    Order(u64),
+    /// A list at both entries of layout on such a file.
+    #[cfg(feature = "calls")]
+    OrderList(u64),
 }
 
 /// All items of a run: so many frames of each class but `sizes`, as many
 /// with widths of their own, with comments after the last declaration, with
-/// characters of two columns, and as many texts with ranges, all sizes,
-/// rendering answers and calls with rules once, and so many lists, as many of
-/// them on files with such comments and with rules. With lists come the
+/// characters of two columns, with comments in order or not, and as many texts
+/// with ranges, all sizes, rendering answers and calls with rules once, and so
+/// many lists, as many of them on files with such comments, with rules, and at
+/// both entries of layout. With lists come the
 /// largest stores and all code points. Last, so many files to count, so many
 /// images to steps and back with as many lists of steps, so many batches, with
 /// which comes their fixed list, so many inputs of the program `report`, and so
@@ -161,6 +168,8 @@ impl Plan {
         items.extend((0..self.frames).map(Item::Foot));
         items.extend((0..self.frames).map(Item::Broad));
         #[cfg(feature = "calls")]
+        items.extend((0..self.frames).map(Item::Order));
+        #[cfg(feature = "calls")]
         items.extend((0..self.frames).map(Item::Ranges));
         #[cfg(feature = "calls")]
         for index in 0..self.lists {
@@ -170,6 +179,7 @@ impl Plan {
                 Item::FootList,
                 Item::RuleList,
                 Item::StretchedRules,
+                Item::OrderList,
             ];
             items.extend(list.map(|item| item(index)));
         }
@@ -385,6 +395,13 @@ fn compare(tally: &mut Tally, item: Item, seed: u64) {
             let case = generate::two_case(seed, index);
             super::lists::compare(tally, "lists, version 2", &case);
         }
+        #[cfg(feature = "calls")]
+        Item::Order(index) => super::orders::compare(tally, seed, index),
+        #[cfg(feature = "calls")]
+        Item::OrderList(index) => {
+            let case = generate::order_list(seed, index);
+            super::lists::compare(tally, "lists, both entries", &case);
+        }
     }
 }
 
@@ -469,6 +486,10 @@ fn name(item: Item, seed: u64) -> String {
         Item::Two(index) => ("two", index),
         #[cfg(feature = "calls")]
         Item::TwoList(index) => ("two-list", index),
+        #[cfg(feature = "calls")]
+        Item::Order(index) => ("order", index),
+        #[cfg(feature = "calls")]
+        Item::OrderList(index) => ("order-list", index),
     };
     format!("{kind} {seed} {index}")
 }
@@ -528,6 +549,10 @@ impl Item {
             "two" => Some(Item::Two(index)),
             #[cfg(feature = "calls")]
             "two-list" => Some(Item::TwoList(index)),
+            #[cfg(feature = "calls")]
+            "order" => Some(Item::Order(index)),
+            #[cfg(feature = "calls")]
+            "order-list" => Some(Item::OrderList(index)),
             _ => Class::from_name(kind).map(|c| Item::Frame(c, index)),
         }
     }

@@ -182,9 +182,10 @@ fn deep_calls() -> String {
     out
 }
 
-/// Generated files with any spans, comments and widths.
+/// Generated files with any spans, comments in order, and any widths.
 fn wild() -> Input {
-    let frames = generate::frames(Class::Wild, 7, 100);
+    const FILES: usize = 100;
+    let frames = generate::frames(Class::Wild, 7, 2 * FILES as u64);
     let file = |bytes: Vec<u8>| {
         let frame = frame::split_any_size(&bytes).ok()?;
         reader::read(frame.source, frame.image).ok()?;
@@ -195,7 +196,7 @@ fn wild() -> Input {
     };
     Input {
         name: "wild spans (100 files)".into(),
-        files: frames.filter_map(file).collect(),
+        files: frames.filter_map(file).take(FILES).collect(),
     }
 }
 

@@ -3,7 +3,7 @@
 use std::{fmt::Write, hint::black_box};
 
 use judge::{
-    calls::{Answer, Given, LayoutState, RenderState},
+    calls::{Answer, Given, LayoutArgs, LayoutState, RenderState},
     choice::Choice,
     driver::{self, Held, Page, Run},
     figures::Tallies,
@@ -47,9 +47,14 @@ impl Ported<'_> {
             ..
         } = *self;
         let store = &mut self.store;
-        let chosen = [OLD, rule];
-        let answer =
-            crate::layout(given, store, &fresh, declarations, true, chosen);
+        let args = LayoutArgs {
+            stop: declarations,
+            close: true,
+            mode: OLD,
+            rule,
+            archive: false,
+        };
+        let answer = crate::layout(given, store, &fresh, args);
         assert!(answer.is_ok(), "{answer:?}");
     }
 

@@ -9,7 +9,11 @@ use judge::{
     refusal::{Refusal, refusal},
 };
 
-use super::{Fault, moves, planted, put, put_refusal, respoken};
+use super::{
+    Fault, moves,
+    orders::{self, Entry},
+    planted, put, put_refusal, respoken,
+};
 
 /// A batch.
 pub fn batch(
@@ -128,7 +132,10 @@ impl Saves {
             let Frame { source, image } = *file;
             let given = Given { source, image };
             let rule = moves::batched(image, choice.rule);
-            let text = batch::single(*file, Choice { rule, ..choice });
+            let choice = Choice { rule, ..choice };
+            let text = orders::strict(Entry::Batch, given, |reading| {
+                batch::single_by(*file, choice, reading)
+            });
             saves.add(text.map(|text| respoken(given, text.into())));
         }
         saves

@@ -4,7 +4,7 @@
 use judge::{
     calls::Given,
     moves::{self, Way, moved},
-    reader::{self, Accepted, Payload, Version},
+    reader::{self, Accepted, Payload, Reading, Version},
     refusal::{Refusal, refusal},
     rule::{LEGAL, UNICODE_16_0},
     unicode::Edition,
@@ -77,11 +77,13 @@ fn answer(
 ) -> Result<Vec<u8>, Refusal> {
     early(way, image, room)?;
     let right = moved(way, source, image, usize::MAX);
+    strictly(way, source, image, &right)?;
     let version = match way {
         Way::Forward => Version::Two,
         Way::Back => Version::One,
     };
-    let Ok(read) = reader::read(source, image) else {
+    let earlier = Reading::Earlier;
+    let Ok(read) = reader::read_by(source, image, earlier) else {
         return right;
     };
     let all = moves::rewritten(&read, version);
@@ -118,6 +120,27 @@ fn early(way: Way, image: &[u8], room: usize) -> Result<(), Refusal> {
         return Err(refusal(17, image.len()));
     }
     Ok(())
+}
+
+/// What a strict move refuses where the right one doesn't by what it reads.
+fn strictly(
+    way: Way,
+    source: &[u8],
+    image: &[u8],
+    right: &Result<Vec<u8>, Refusal>,
+) -> Result<(), Refusal> {
+    let fault = match way {
+        Way::Forward => Fault::ForwardStrict,
+        Way::Back => Fault::BackStrict,
+    };
+    let is_read = match right {
+        Ok(_) => true,
+        Err(refusal) => matches!(refusal.number, 21 | 17),
+    };
+    match planted(fault) && is_read {
+        true => reader::read(source, image).map(|_| ()),
+        false => Ok(()),
+    }
 }
 
 /// An image of the other version, which is moved already.
@@ -244,7 +267,8 @@ pub fn with_widths(image: &[u8]) -> Vec<u8> {
 
 /// An image as the steps are asked of it.
 pub fn with_steps(source: &[u8], image: &[u8]) -> Vec<u8> {
-    let read = reader::read_version(source, image, Version::Two);
+    let (two, strict) = (Version::Two, Reading::Strict);
+    let read = reader::read_version(source, image, two, strict);
     match read {
         Ok(read) if planted(Fault::StepsOfTwo) => {
             moves::rewritten(&read, Version::One)

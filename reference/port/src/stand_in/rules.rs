@@ -3,9 +3,12 @@
 use std::sync::atomic::Ordering;
 
 use judge::{
-    calls::{Answer, Given, LayoutState, World, layout_call, render_call},
+    calls::{
+        Answer, Given, LayoutArgs, LayoutState, World, layout_call,
+        render_call,
+    },
     driver::{Page, Texts},
-    reader,
+    reader::{self, Reading},
     refusal::{Refusal, refusal},
     rows::{self, Row},
     rule::{self, SUPPLIED, UNICODE_15_1, UNICODE_16_0},
@@ -17,7 +20,8 @@ type Answered = Result<Answer, Refusal>;
 
 /// Whether a fault on rules is planted.
 fn spoils() -> bool {
-    PLANTED.load(Ordering::Relaxed) >= Fault::OneRule as u8
+    let ours = Fault::OneRule as u8..=Fault::TwoWithWidths as u8;
+    ours.contains(&PLANTED.load(Ordering::Relaxed))
 }
 
 /// What refuses a rule of a layout call or a whole file.
@@ -60,18 +64,17 @@ fn measured(rule: usize) -> usize {
     }
 }
 
-/// A layout call: its stop, whether it closes, the mode and the rule.
+/// A layout call.
 pub fn lay_out(
     given: Given,
     world: &mut World,
-    [stop, close, mode, rule]: [usize; 4],
+    args: LayoutArgs,
 ) -> Answered {
-    let close = close != 0;
     if !spoils() {
-        return layout_call(given, world, stop, close, mode, rule);
+        return layout_call(given, world, args);
     }
-    check(given, rule)?;
-    let rule = two(given, looked_at(rule))?;
+    check(given, args.rule)?;
+    let rule = two(given, looked_at(args.rule))?;
     let before = world.clone();
     let laying = &mut world.laying;
     let forgets = planted(Fault::LayoutRuleNotKept) && laying.begun
@@ -80,7 +83,7 @@ pub fn lay_out(
         laying.rule = 0;
     }
     let carried = laying.rule;
-    layout_call(given, world, stop, close, mode, rule)?;
+    layout_call(given, world, LayoutArgs { rule, ..args })?;
     if planted(Fault::NoRuleRefused) && before.laying.begun && carried == 0 {
         return Err(refusal(12, 0));
     }
@@ -91,7 +94,7 @@ pub fn lay_out(
     *world = before;
     world.laying.rule = 0;
     let fresh = !world.laying.begun;
-    let answer = layout_call(given, world, stop, close, mode, by)?;
+    let answer = layout_call(given, world, LayoutArgs { rule: by, ..args })?;
     world.laying.rule = rule;
     if planted(Fault::ShebangUntrimmed) && fresh {
         widen_shebang(given, world, rule);
@@ -110,7 +113,9 @@ pub fn lay_out(
 
 /// The width of the whole of the shebang's text.
 fn widen_shebang(given: Given, world: &mut World, rule: usize) {
-    let read = reader::read(given.source, given.image).expect("accepted");
+    let Given { source, image } = given;
+    let read = reader::read_by(source, image, Reading::Earlier);
+    let read = read.expect("accepted");
     let shebang = read.tree.children[0].as_ref();
     let (Some(shebang), Some(edition)) = (shebang, rule::edition(rule))
     else {

@@ -1,23 +1,25 @@
 //! The writer of images from steps, and the steps of an image.
 
 use judge::{
+    calls::Given,
+    reader::{self, HEADER, MOST_BODY, Reading, Version},
     refusal::{Refusal, refusal},
-    steps::{self, Cause, Step, follow},
+    steps::{self, Cause, Contents, Step},
 };
 
-use super::{Fault, moves::with_steps, planted, put, put_refusal};
+use super::{
+    Fault,
+    moves::with_steps,
+    orders::{self, Entry},
+    planted, put, put_refusal,
+};
 
 /// An image from steps.
 pub fn write(steps: &[u8], output: &mut [u8], out: &mut [u64; 2]) {
     let room = output.len();
-    let written = match follow(steps) {
+    let written = match orders::follow(steps) {
         Err(fault) => Err(spoiled(steps, fault, room)),
-        Ok(_) => steps::write(steps, room).or_else(|refused| {
-            let image = (planted(Fault::AnyBody) && refused.number == 17)
-                .then(|| judged_without_limit(steps))
-                .filter(|image| image.len() <= room);
-            image.ok_or(refused)
-        }),
+        Ok(contents) => image_in(&contents, room),
     };
     match written {
         Ok(mut image) => {
@@ -44,6 +46,7 @@ fn spoiled(list: &[u8], fault: steps::Fault, room: usize) -> Refusal {
         Cause::TooDeep => planted(Fault::LateDepth),
         Cause::TextNotUtf8 => planted(Fault::LateText),
         Cause::CommentEmpty => planted(Fault::LateEmptyComment),
+        Cause::CommentUnordered => planted(Fault::LateUnordered),
         _ => false,
     };
     let mut place = fault.place;
@@ -60,9 +63,17 @@ fn spoiled(list: &[u8], fault: steps::Fault, room: usize) -> Refusal {
     }
 }
 
-fn judged_without_limit(list: &[u8]) -> Vec<u8> {
-    let contents = follow(list).expect("followed before");
-    judge::image::write(&contents.comments, &contents.tree)
+/// The image where there is room, or 17.
+fn image_in(contents: &Contents, room: usize) -> Result<Vec<u8>, Refusal> {
+    let image = judge::image::write(&contents.comments, &contents.tree);
+    let most = match planted(Fault::AnyBody) {
+        true => room,
+        false => room.min(HEADER + MOST_BODY),
+    };
+    match image.len() <= most {
+        true => Ok(image),
+        false => Err(refusal(17, image.len())),
+    }
 }
 
 /// The steps of an image.
@@ -76,7 +87,15 @@ pub fn steps(
         return put_refusal(out, refusal(17, image.len()));
     }
     let image = with_steps(source, image);
-    match steps::read(source, &image, output.len()) {
+    let given = Given {
+        source,
+        image: &image,
+    };
+    let room = output.len();
+    let read = orders::strict(Entry::Steps, given, |reading| {
+        list_of(given, room, reading)
+    });
+    match read {
         Ok(mut list) => {
             spoil_last(&mut list, Fault::StepByte);
             put_bytes(output, &list, out);
@@ -88,6 +107,22 @@ pub fn steps(
             }
             put_refusal(out, refused);
         }
+    }
+}
+
+/// The list of an image's steps where there is room, or 17.
+fn list_of(
+    given: Given,
+    room: usize,
+    reading: Reading,
+) -> Result<Vec<u8>, Refusal> {
+    let Given { source, image } = given;
+    let one = Version::One;
+    let read = reader::read_version(source, image, one, reading)?;
+    let list = steps::joined(&steps::of_read(&read));
+    match list.len() <= room {
+        true => Ok(list),
+        false => Err(refusal(17, list.len())),
     }
 }
 

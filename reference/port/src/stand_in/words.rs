@@ -1,6 +1,9 @@
 //! What a text says, with something left out or put elsewhere.
 
-use judge::{calls::Given, reader};
+use judge::{
+    calls::Given,
+    reader::{self, Reading},
+};
 
 use super::{Fault, planted};
 
@@ -18,7 +21,8 @@ pub fn respoken(given: Given, text: Vec<u8>) -> Vec<u8> {
 
 /// Without the line of the last comment of the list that stands in it.
 fn without_comment(given: Given, text: &[u8]) -> Option<Vec<u8>> {
-    let read = reader::read(given.source, given.image).ok()?;
+    let Given { source, image } = given;
+    let read = reader::read_by(source, image, Reading::Earlier).ok()?;
     let comments = read.comments.iter().rev();
     let (at, length) = comments
         .map(|comment| read.source[comment.clone()].trim_end())

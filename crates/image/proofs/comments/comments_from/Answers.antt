@@ -15,7 +15,7 @@ pub loop-i-preserved : goal.loop-i-preserved
 loop-i-preserved c =
     let n : c.args.count - (c.loop-i.i + 1) ≡ c.args.count - c.loop-i.i - 1 = omega arith in
     let at : 7 + 8 * (c.loop-i.i + 1) ≡ 7 + 8 * c.loop-i.i + 8 = omega arith in
-    rw (n, at) (c.loop-i.invariant ∙ from_on _ _ _ _ _ _ (omega arith) (sym c.comment_fits.ensures ∙ c.if-not-comment_fits.false))
+    rw (n, at, c.least_after-least.ensures) (c.loop-i.invariant ∙ from_on _ _ _ _ _ _ (omega arith) (sym c.comment_fits.ensures ∙ c.if-not-comment_fits.false))
 
 pub returns : goal.returns
 returns c =

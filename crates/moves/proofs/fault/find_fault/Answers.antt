@@ -56,7 +56,8 @@ pub loop-at-preserved-then-kind-2 : goal.loop-at-preserved-then-kind-2
 loop-at-preserved-then-kind-2 c =
     seek_on _ _ _ _ _ c.loop-at.invariant c.loop-at-test.true (λ z. c.if-n-eq0.false (c.num32-n.ensures.same ∙ z)) _ _
     (elim c.else-kind.branch [
-      | else-kind-via-then-kind+else-is_faulty w ↦ at_fault c.args.way c.args.image.now c.loop-at.shebang c.loop-at.at _ _ false w.if-kind.true c.num32-n.ensures.same w.is_faulty.ensures w.if-is_faulty.false
+      | else-kind-via-then-kind+else-is_faulty w ↦ at_fault c.args.way c.args.image.now c.loop-at.shebang c.loop-at.at _ _ false w.if-kind.true
+          c.num32-n.ensures.same w.is_faulty.ensures w.if-is_faulty.false
       | else-kind-via-else-kind w ↦ no_text c.args.way c.args.image.now c.loop-at.shebang c.loop-at.at w.if-kind.false
     ])
     c.payload_end-at.ensures
@@ -66,7 +67,8 @@ pub loop-at-preserved : goal.loop-at-preserved
 loop-at-preserved c =
     seek_on _ _ _ _ _ c.loop-at.invariant c.loop-at-test.true (λ z. c.if-n-eq0.false (c.num32-n.ensures.same ∙ z)) _ _
     (elim c.else-kind.branch [
-      | else-kind-via-then-kind+else-is_faulty w ↦ at_fault c.args.way c.args.image.now c.loop-at.shebang c.loop-at.at _ _ false w.if-kind.true c.num32-n.ensures.same w.is_faulty.ensures w.if-is_faulty.false
+      | else-kind-via-then-kind+else-is_faulty w ↦ at_fault c.args.way c.args.image.now c.loop-at.shebang c.loop-at.at _ _ false w.if-kind.true
+          c.num32-n.ensures.same w.is_faulty.ensures w.if-is_faulty.false
       | else-kind-via-else-kind w ↦ no_text c.args.way c.args.image.now c.loop-at.shebang c.loop-at.at w.if-kind.false
     ])
     c.payload_end-at.ensures

@@ -9,13 +9,15 @@ pub returns-in-Some : goal.returns-in-Some
 returns-in-Some c =
     let parts = IsPartitionPoint-from_clause (λ e. ltb (last e) c.args.code) _ _ c.partition_point-next.ensures.partitioned
     (parted 0 c.args.table.now c.args.code c.requires) (λ a r f k. search rules) in
-    found_by c.args.table.now c.args.code c.partition_point-next.result c.in-Some.field-0.now c.requires parts (c.in-Some.ensures.lookup.0, c.in-Some.ensures.lookup.1) c.if-first-code.true
+    found_by c.args.table.now c.args.code c.partition_point-next.result c.in-Some.field-0.now c.requires parts (c.in-Some.ensures.lookup.0, c.in-Some.ensures.lookup.1)
+    c.if-first-code.true
 
 pub returns-in_default : goal.returns-in_default
 returns-in_default c =
     let parts = IsPartitionPoint-from_clause (λ e. ltb (last e) c.args.code) _ _ c.partition_point-next.ensures.partitioned
     (parted 0 c.args.table.now c.args.code c.requires) (λ a r f k. search rules) in
-    early_by c.args.table.now c.args.code c.partition_point-next.result c.in-Some.field-0.now c.requires parts (c.in-Some.ensures.lookup.0, c.in-Some.ensures.lookup.1) c.if-first-code.false
+    early_by c.args.table.now c.args.code c.partition_point-next.result c.in-Some.field-0.now c.requires parts (c.in-Some.ensures.lookup.0, c.in-Some.ensures.lookup.1)
+    c.if-first-code.false
 
 pub returns-in_default-2 : goal.returns-in_default-2
 returns-in_default-2 c =

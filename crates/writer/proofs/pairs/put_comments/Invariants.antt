@@ -12,7 +12,7 @@ use Rattle.writer.proofs.pairs.put_comments.Given as goal
 abbrev pub invariant-loop-here : goal.invariant-loop-here
 invariant-loop-here l = record {
   list : l.here.steps.now ≡ l.steps;
-  listing : Listing l.steps (put_by pair_bytes l.fn.out.pos l.fn.out.bytes.now (comments_from l.steps MAX_COMMENTS 0)) l.left l.here.at l.out.pos
+  listing : Listing l.steps (put_by pair_bytes l.fn.out.pos l.fn.out.bytes.now (comments_from l.steps MAX_COMMENTS 0 0)) l.left l.least l.here.at l.out.pos
       l.out.bytes.now;
   same : Same l.fn.out l.out;
 }

@@ -15,7 +15,7 @@ pub returns : goal.returns
 returns c cs end reads low =
     let five : c.put32.new.self.pos ≡ 5 = omega (arith, c.put.ensures.place, c.put32.ensures.place) in
     let seven : c.put16.new.self.pos ≡ 7 = omega (arith, c.put16.ensures.place, five) in
-    let last = put_got pair_bytes 7 _ (comments_from c.args.steps.now MAX_COMMENTS 0) c.put_comments.result _ cs _
+    let last = put_got pair_bytes 7 _ (comments_from c.args.steps.now MAX_COMMENTS 0 0) c.put_comments.result _ cs _
     (rw seven at c.put_comments.ensures.put) reads low in
     c.bytes-1.given.1.1 (sym (c.put_comments.ensures.same ∙ c.put16.ensures.name ∙ c.put32.ensures.name ∙ c.put.ensures.name))
     ∙ last

@@ -64,6 +64,12 @@ pub fn refused(number: u8) -> File {
     }
 }
 
+/// A file with a later comment first in its list.
+pub fn backwards() -> File {
+    let frame = examples::of_source("#a\n#b\n", vec![3..5, 0..2], vec![]);
+    of_frame(&frame)
+}
+
 /// `const c: () = [xxxxxxxxx, ..];`, of so many names.
 pub fn names(count: usize) -> File {
     let name = chosen(87, 0..9, 0, []);

@@ -14,8 +14,8 @@ use crate::{
     width::REFERENCE,
 };
 use files::{
-    File, NO_BYTES, in_two, japanese, known, names, of_image, of_size,
-    refused,
+    File, NO_BYTES, backwards, in_two, japanese, known, names, of_image,
+    of_size, refused,
 };
 
 /// A batch with what it shows.
@@ -89,6 +89,9 @@ impl Cases {
             let name = format!("a file refused by {number}");
             self.put_plain(&name, &[refused(number)]);
         }
+        let neighbour = known("const-comment");
+        let files = [neighbour.clone(), backwards(), neighbour];
+        self.put_plain("a later comment first, between others", &files);
         for name in [
             "1800 rows",
             "1801 rows",

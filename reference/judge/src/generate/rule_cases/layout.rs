@@ -2,7 +2,7 @@
 
 use super::super::{CallCase, rules::ILLEGAL};
 use crate::{
-    calls::{self, Call, Given, World},
+    calls::{self, Call, Given, LayoutArgs, World},
     driver::Run,
     frame,
     image::{self, node, text},
@@ -56,12 +56,13 @@ fn on(source: &str, calls: Vec<Call>) -> CallCase {
 }
 
 fn layout(rule: usize, stop: usize, close: bool) -> Call {
-    Call::Layout {
+    Call::Layout(LayoutArgs {
         stop,
         close,
         mode: OLD,
         rule,
-    }
+        archive: false,
+    })
 }
 
 fn render(rule: usize, stop: usize) -> Call {
@@ -162,11 +163,14 @@ pub fn carried() -> Vec<CallCase> {
 /// Rules that can't be chosen: 20, also where the file is refused, where the
 /// mode is, and where another is carried.
 pub fn illegal() -> Vec<CallCase> {
-    let call = |rule, mode| Call::Layout {
-        stop: 0,
-        close: false,
-        mode,
-        rule,
+    let call = |rule, mode| {
+        Call::Layout(LayoutArgs {
+            stop: 0,
+            close: false,
+            mode,
+            rule,
+            archive: false,
+        })
     };
     let mut cases = Vec::new();
     for rule in ILLEGAL {
@@ -197,12 +201,13 @@ pub fn choices() -> Vec<CallCase> {
             render(not_shown, first),
             render(shown, first),
             layout(not_laid, 2, true),
-            Call::Layout {
+            Call::Layout(LayoutArgs {
                 stop: 2,
                 close: true,
                 mode: NEW,
                 rule: laid,
-            },
+                archive: false,
+            }),
             layout(laid, 2, true),
         ]
     };

@@ -9,7 +9,7 @@ use super::{
     on, render,
 };
 use crate::{
-    calls::Call,
+    calls::{Call, LayoutArgs},
     image::{self, Tree, node},
     mode::OLD,
     reader::Version,
@@ -53,12 +53,13 @@ pub fn versions() -> Vec<CallCase> {
     for image in [&whole[..], b"\x02", &whole[..9]] {
         for source in [&b"ab"[..], b"ab\xFF"] {
             for rule in LEGAL {
-                let layout = Call::Layout {
+                let layout = Call::Layout(LayoutArgs {
                     stop: 0,
                     close: true,
                     mode: OLD,
                     rule,
-                };
+                    archive: false,
+                });
                 let mut case = on(&[Part::Ascii([SOURCE, 0, 1])], rule);
                 case.source = source.to_vec();
                 case.image = image.to_vec();

@@ -20,7 +20,8 @@ decreases-read_record l = 3 * l.self.now.left
 abbrev pub invariant-read_children-loop-here : goal.invariant-read_children-loop-here
 invariant-read_children-loop-here l =
     Here l.self l.here
-    × Going (child_at l.self.source.now l.self.image.now (width_bytes l.self.image.now) l.self.left) (children_due l.self (row_number l.places)) (row_number l.row)
+    × Going (child_at l.self.source.now l.self.image.now (width_bytes l.self.image.now) l.self.left)
+    (children_due l.self (row_number l.places)) (row_number l.row)
     l.here.at l.self.end
 
 abbrev pub decreases-read_children-loop-here : goal.decreases-read_children-loop-here

@@ -1,6 +1,7 @@
 use mathlib.Core.Path.{sym, ap, ◌∙◌}
 use Rattle.image.specs.declared.Document.{Document}
 use Rattle.refusals.specs.Reasons.{answer_of}
+use Rattle.image.proofs.Earlier.{accepts_by}
 use Rattle.comments.proofs.Accepted.{accepted_listed}
 use Rattle.layout_call.proofs.accepted.Accepted.check.Goals as goal
 
@@ -9,5 +10,9 @@ invariant_of-parsed c =
     record {
       listed =
           accepted_listed c.args.source.now c.args.image.now c.in_ok-doc.doc
-          (record { answer = sym c.check.ensures ∙ ap (answer_of (λ (d : Document). d)) c.in_ok-doc.was });
+          (accepts_by c.args.archive _ _ _ (sym c.check_by.ensures ∙ ap (answer_of (λ (d : Document). d)) c.in_ok-doc.was));
     }
+
+pub invariant_of-result : goal.invariant_of-result
+invariant_of-result c =
+    record { accepts = accepts_by c.args.archive _ _ _ (sym c.check_by.ensures ∙ ap (answer_of (λ (d : Document). d)) c.in_ok-doc.was) }

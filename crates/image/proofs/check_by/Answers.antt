@@ -6,7 +6,7 @@ use Rattle.refusals.specs.Reasons.{refusal_in}
 use Rattle.image.specs.Read.{read_with}
 use Rattle.refusals.proofs.Passed.{passed}
 use Rattle.image.proofs.Texts.{checked_well, checked_bad}
-use Rattle.image.proofs.check.Goals as goal
+use Rattle.image.proofs.check_by.Goals as goal
 
 pub returns-in_err-check : goal.returns-in_err-check
 unfolding read_with
