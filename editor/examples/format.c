@@ -1,6 +1,6 @@
 /* The first worked example of docs/01-scope.md, formatted; then an image of a version that there is not, which is refused, and one of version 2,
-   which is refused by supplied widths; then the example moved to version 2 and back; then an archived image with a later comment first; then the
-   columns of a text by each rule of widths. */
+   which is refused by supplied widths; then the example moved to version 2 and back; then an archived image with a later comment first; then a
+   generator's trees, one of which would be read back differently; then the columns of a text by each rule of widths. */
 #include <stdio.h>
 #include <string.h>
 #include "rrufthim.h"
@@ -91,6 +91,50 @@ static void order(void)
     archived(source, sizeof source, image, sizeof image);
 }
 
+/* Steps from which an image is written: a record that opens or closes, the literal `true`, and an operator by its place. */
+#define OPEN(kind) 2, kind, 0, 0, 0, 0, 0, 0, 0, 0
+#define CLOSE 6
+#define TRUTH OPEN(51), OPEN(87), 4, 1, CLOSE, CLOSE
+#define SIGN(place) OPEN(86), 4, place, CLOSE
+#define SUM OPEN(63), TRUTH, SIGN(8), TRUTH, CLOSE
+/* `const c: () = true * VALUE;` */
+#define CONSTANT(...) \
+    OPEN(1), 5, OPEN(11), OPEN(2), 3, 0, 1, 0, 0, 0, 1, 'c', CLOSE, OPEN(43), CLOSE, \
+    OPEN(63), TRUTH, SIGN(10), __VA_ARGS__, CLOSE, CLOSE, CLOSE
+
+/* Writes a tree from steps, and asks whether its text would be read back as this tree. */
+static void built(const uint8_t *steps, size_t steps_len)
+{
+    static const uint8_t source[1] = {0};
+    uint8_t image[400];
+    uint64_t out[RRUFTHIM_READS_BACK_OUT];
+
+    rrufthim_write(steps, steps_len, image, sizeof image, out);
+    if (out[0] != 0) {
+        printf("refused %lu at %lu\n", (unsigned long)out[0], (unsigned long)out[1]);
+        return;
+    }
+    format(image, (size_t)out[1]);
+    rrufthim_reads_back(source, 0, image, (size_t)out[1], out);
+    if (out[0] != 0) {
+        printf("refused %lu at %lu\n", (unsigned long)out[0], (unsigned long)out[1]);
+    } else if (out[1] != 0) {
+        printf("is read back the same\n");
+    } else {
+        printf("is read back differently: the operand at %lu, of kind %u\n", (unsigned long)out[2], (unsigned)image[out[2] + 4]);
+    }
+}
+
+/* A sum as the right operand of a product, without parentheses and with them. */
+static void read_back(void)
+{
+    static const uint8_t plain[] = {CONSTANT(SUM)};
+    static const uint8_t grouped[] = {CONSTANT(OPEN(70), SUM, CLOSE)};
+
+    built(plain, sizeof plain);
+    built(grouped, sizeof grouped);
+}
+
 /* Two characters of three bytes and two columns each, and of rules one too many. */
 static void columns(void)
 {
@@ -122,6 +166,7 @@ int main(void)
     format(other, sizeof other);
     moves();
     order();
+    read_back();
     columns();
     return 0;
 }

@@ -2,7 +2,7 @@
  * The proved formatter for Roto scripts, as C calls it. The functions are those of librrufthim.a: target/staticlib/libexports.a, which
  * `tools/build exports` writes (x86-64 Linux), under a name that no other library has. docs/01-scope.md has the rules: the tree image,
  * rows, marks, states and refusals; docs/02-change-requests.md those of tallies, widths, modes, steps, batches, rules of widths, the
- * image's version 2 and the order of comments.
+ * image's version 2, the order of comments and trees that would be read back differently.
  *
  * Buffers. A pointer to bytes, rows or a table goes with the number of its elements; state, args, choice, tallies and out have a fixed
  * number of places. No pointer may be NULL, even where the number is 0. store and table must be aligned for uint32_t, those of a fixed
@@ -30,6 +30,7 @@
  *
  * For people. The span that a refusal is about stands in the image, start and end as four bytes each, the highest first: for 5 and 6 behind
  * the length and the kind of the record, at image[out[1] + 5], and so for 21; for 7 at image[out[1]], unless out[1] is 5, the place of their count.
+ * That of an operand which rrufthim_reads_back names is at image[out[2] + 5].
  */
 #ifndef RRUFTHIM_H
 #define RRUFTHIM_H
@@ -115,6 +116,7 @@ typedef char rrufthim_lengths_have_64_bits[sizeof(size_t) == 8 ? 1 : -1];
 #define RRUFTHIM_COLUMNS_OUT 2
 #define RRUFTHIM_FORWARD_OUT 2
 #define RRUFTHIM_BACK_OUT 2
+#define RRUFTHIM_READS_BACK_OUT 3
 
 /*
  * Which library this header is for.
@@ -128,8 +130,8 @@ typedef char rrufthim_lengths_have_64_bits[sizeof(size_t) == 8 ? 1 : -1];
  * the major is 0, the minor is raised for both. Another shape is always another version too.
  */
 #define RRUFTHIM_SHAPE 2
-#define RRUFTHIM_VERSION "0.5"
-#define RRUFTHIM_VERSION_NUMBER 5
+#define RRUFTHIM_VERSION "0.6"
+#define RRUFTHIM_VERSION_NUMBER 6
 
 #define RRUFTHIM_JOIN_AS_IT_IS(name, number) name##number
 #define RRUFTHIM_JOIN(name, number) RRUFTHIM_JOIN_AS_IT_IS(name, number)
@@ -147,6 +149,7 @@ typedef char rrufthim_lengths_have_64_bits[sizeof(size_t) == 8 ? 1 : -1];
 #define rrufthim_columns RRUFTHIM_SYMBOL(columns)
 #define rrufthim_forward RRUFTHIM_SYMBOL(forward)
 #define rrufthim_back RRUFTHIM_SYMBOL(back)
+#define rrufthim_reads_back RRUFTHIM_SYMBOL(reads_back)
 
 /*
  * Whether a source and its tree image, of either version, are accepted. Refusals 1 to 7.
@@ -358,6 +361,20 @@ void rrufthim_back(
     const uint8_t *image, size_t image_len,
     uint8_t *output, size_t output_len,
     uint64_t out[RRUFTHIM_BACK_OUT]);
+
+/*
+ * Whether the text of an image's tree, of either version, would be read back as this tree, by the precedences of Roto's parser: for who builds
+ * trees, such as a generator, before it hands them on. No parentheses are added to an operator (kind 63) that needs them: it must not stand
+ * where it would be read at another place, as a sum does under a product, nor directly under a 60 (not) or a 64 (negation). A record of
+ * kind 70 is what parentheses are. No other function asks this. Refusals 1 to 7.
+ *
+ * out: [0] 0, [1] 1 for yes, 0 for no, [2] 0, or for no the offset in the image of the first operand, in reading order, that breaks a rule: a
+ *      record of kind 63. Yes is said by the rules for operators alone; a text may come back as another tree for other reasons.
+ */
+void rrufthim_reads_back(
+    const uint8_t *source, size_t source_len,
+    const uint8_t *image, size_t image_len,
+    uint64_t out[RRUFTHIM_READS_BACK_OUT]);
 
 #ifdef __cplusplus
 }

@@ -22,6 +22,7 @@ use std::{error::Error, fmt};
 
 use crate::{
     calls::{columns, refused},
+    error::shown,
     file::File,
     image::{HEAD, HEADER, LENGTH, is_shebang, text_at},
     limits::{MAX_BODY, MAX_WIDTH},
@@ -187,7 +188,7 @@ impl fmt::Display for MoveError {
 
 impl fmt::Display for WrongWidth {
     fn fmt(&self, f: &mut fmt::Formatter<'_>) -> fmt::Result {
-        let (what, text) = (self.what(), self.shown());
+        let (what, text) = (self.what(), shown(&self.text));
         match self.stored {
             Some(stored) => write!(
                 f,
@@ -212,16 +213,6 @@ impl WrongWidth {
         } else {
             "the name"
         }
-    }
-
-    /// Its start, where it is long, and no line breaks.
-    fn shown(&self) -> String {
-        const MOST: usize = 40;
-        let mut shown: String = self.text.chars().take(MOST).collect();
-        if shown.len() < self.text.len() {
-            shown.push('…');
-        }
-        shown.escape_debug().to_string()
     }
 }
 

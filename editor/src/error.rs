@@ -99,3 +99,13 @@ impl Error for FormatError {
         }
     }
 }
+
+/// A name's start, where it is long, and no line breaks.
+pub(crate) fn shown(name: &str) -> String {
+    const MOST: usize = 40;
+    let mut shown: String = name.chars().take(MOST).collect();
+    if shown.len() < name.len() {
+        shown.push('…');
+    }
+    shown.escape_debug().to_string()
+}

@@ -58,10 +58,14 @@ pub fn declarations(image: &[u8]) -> usize {
     children(image).count().saturating_sub(1)
 }
 
+/// Where the tree's record starts.
+fn tree(image: &[u8]) -> usize {
+    HEADER + COUNT + PAIR * comments(image)
+}
+
 /// The offsets of the tree's children, the shebang's before all others.
 fn children(image: &[u8]) -> impl Iterator<Item = usize> {
-    let tree = HEADER + COUNT + PAIR * comments(image);
-    let mut at = tree + LENGTH + HEAD;
+    let mut at = tree(image) + LENGTH + HEAD;
     iter::from_fn(move || {
         let child = at;
         at += LENGTH + number(image, at)?;
@@ -119,6 +123,48 @@ pub fn text_at(image: &[u8], at: usize) -> Option<(&str, Option<usize>)> {
         Version::Two => (None, payload),
     };
     Some((std::str::from_utf8(text).ok()?, width))
+}
+
+/// The kind of the record at this offset.
+pub fn kind_at(image: &[u8], at: usize) -> Option<u8> {
+    image.get(at.checked_add(LENGTH)?).copied()
+}
+
+/// The payload byte of the record at this offset.
+pub fn byte_at(image: &[u8], at: usize) -> Option<u8> {
+    image.get(at.checked_add(LENGTH + HEAD)?).copied()
+}
+
+/// The offsets of a record's children in an accepted image, absent ones too.
+/// The record has no text.
+pub fn children_of(
+    image: &[u8],
+    record: usize,
+) -> impl Iterator<Item = usize> {
+    let end = number(image, record).map_or(0, |size| record + LENGTH + size);
+    let payload = match kind_at(image, record) {
+        Some(kind::RETURN | kind::OPERATOR | kind::LITERAL) => 1,
+        _ => 0,
+    };
+    let mut at = record + LENGTH + HEAD + payload;
+    iter::from_fn(move || {
+        let child = at;
+        at += LENGTH + number(image, at)?;
+        (child < end).then_some(child)
+    })
+}
+
+/// The records around the one at this offset of an accepted image, from the
+/// tree's on, and last itself.
+pub fn around(image: &[u8], at: usize) -> Vec<usize> {
+    let mut path = vec![tree(image)];
+    while let Some(last) = path.last().copied().filter(|last| *last != at) {
+        let mut before = children_of(image, last);
+        let Some(first) = before.next() else { break };
+        let inner = before.take_while(|child| *child <= at).last();
+        path.push(inner.unwrap_or(first));
+    }
+    path
 }
 
 /// Whether the record at this offset is the shebang's: the tree's first child.

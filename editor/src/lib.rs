@@ -30,7 +30,8 @@
 //! - **Images.** What all calls read is a [`File`]: a source, and its tree as
 //!   an image. [`encode`] gives that of a tree, [`encode_written`] that of
 //!   what a plug writes, and a [`generator`] builds one from steps. An
-//!   [`archive`] may keep them without widths.
+//!   [`archive`] may keep them without widths. [`reads_back`] says of a tree
+//!   that no parser gave whether its text would be read as this tree.
 //! - **The proved functions themselves** are [`calls`], over slices that the
 //!   caller lends: any arguments that safe Rust can give them end in an
 //!   answer or a [`Refusal`]. [`figures`] counts files.
@@ -66,8 +67,10 @@ pub mod kind;
 pub mod limits;
 #[allow(unsafe_code)]
 mod linked;
+mod operator;
 mod options;
 mod place;
+mod read_back;
 mod refusal;
 mod writer;
 
@@ -87,6 +90,7 @@ pub use in_parts::InParts;
 pub use linked::SHAPE;
 pub use options::{Comments, Options, Widths};
 pub use place::Place;
+pub use read_back::{Operand, Parent, ReadBackError, reads_back};
 pub use refusal::{Refusal, RefusalRow};
 pub use writer::{ImageWriter, NO_SPAN, OpenRecord, WriteResult};
 

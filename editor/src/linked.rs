@@ -197,6 +197,11 @@ linked! {
         out: &mut [u64; 2],
     );
 
+    /// Whether the tree would be read back the same. `out`: 0, 1 and 0 for yes;
+    /// 0, 0 and the offset of the first operand that breaks a rule; or number,
+    /// place.
+    fn reads_back(source: &[u8], image: &[u8], out: &mut [u64; 3]);
+
     /// The columns of a text by a rule; by 1 they are `supplied`. `out`: 0,
     /// columns; or number, place.
     fn columns(text: &[u8], rule: u64, supplied: u64, out: &mut [u64; 2]);

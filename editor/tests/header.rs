@@ -17,7 +17,7 @@ use rrufthim::{
 #[test]
 fn all_say_the_same() {
     let exported = exported(&exports());
-    assert_eq!(exported.len(), 13);
+    assert_eq!(exported.len(), 14);
     assert_eq!(linked(LINKED), exported);
     assert_eq!(declared(HEADER), exported);
     let check = format!("rrufthim_check_s{SHAPE}");
@@ -79,6 +79,7 @@ fn a_difference_is_found() {
         ("_COLUMNS_OUT 2", "_COLUMNS_OUT 3"),
         ("_FORWARD_OUT 2", "_FORWARD_OUT 3"),
         ("_BACK_OUT 2", "_BACK_OUT 3"),
+        ("_READS_BACK_OUT 3", "_READS_BACK_OUT 2"),
         (
             "uint64_t rule,\n    uint64_t supplied",
             "uint64_t supplied,\n    uint64_t rule",

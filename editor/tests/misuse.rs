@@ -6,9 +6,10 @@ mod support;
 use rrufthim::{
     Cause, Comments, File, Formatter, Options, Refusal, Widths,
     calls::{
-        LayoutArgs, LayoutState, ROW, RenderArgs, RenderState, check,
-        format_file, layout, render,
+        self, LayoutArgs, LayoutState, ROW, RenderArgs, RenderState, Verdict,
+        check, format_file, layout, render,
     },
+    reads_back,
 };
 use support::{
     Buffers, DECLARATIONS, JUNK, JUNK_NUMBER, Random, SOURCE, Whole, all,
@@ -273,6 +274,9 @@ fn changed_images_and_sources() {
         let file = File::new(&source, &image);
         let mut buffers = Buffers::ample();
         let formatted = buffers.format(file);
+        let verdict = calls::reads_back(file);
+        assert_eq!(verdict.err(), check(file).err());
+        assert_eq!(reads_back(file).is_ok(), verdict == Ok(Verdict::Same));
         if let Err(refusal) = check(file) {
             refused += 1;
             assert_eq!(formatted, Err(refusal));

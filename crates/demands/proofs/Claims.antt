@@ -7,6 +7,8 @@ use Rattle.node_widths.proofs.Summed.{supplied_stay}
 use Rattle.moves.proofs.Moved.{back_after_forward, forward_after_back}
 use Rattle.moves.proofs.Exact.{twenty_one}
 use Rattle.demands.proofs.Archive.{archive_1}
+use Rattle.readback.proofs.Claimed.{verdict_holds}
+use Rattle.demands.proofs.ReadsBack.{reads_back_1}
 use Rattle.renderer_rules.proofs.Call.{call_as_rust}
 use Rattle.renderer_rules.proofs.Checked.{fault_of_part}
 use Rattle.renderer_rules.proofs.Holds.{writes_pieces, no_slash_around}
@@ -104,6 +106,8 @@ claims = record {
     archive_1 = archive_1;
     strict_is_in_order = strict_is_in_order;
     entries_agree = entries_agree;
+    verdict_holds = verdict_holds;
+    reads_back_1 = reads_back_1;
   };
   linked = record {
     linked_promises = linked_promises;

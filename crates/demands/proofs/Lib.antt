@@ -4,6 +4,7 @@ pub mod Demand3
 pub mod Generator
 pub mod Saves
 pub mod Archive
+pub mod ReadsBack
 pub mod Linked
 pub mod Text
 pub mod Claims

@@ -52,13 +52,17 @@ use Rattle.exports.specs.Calls.{ChecksFile, Lays, Renders, FormatsFile}
 use Rattle.exports.specs.Generator.{told_bytes}
 use Rattle.exports.specs.Saves.{told_batch, FormatsBatch}
 use Rattle.exports.specs.Measures.{told_columns}
+use Rattle.exports.specs.Verdict.{SaysVerdict}
+use Rattle.readback.specs.Verdict.{verdict_due, told_verdict}
+use Rattle.readback.specs.declared.Verdict.{Verdict}
+use Rattle.readback.specs.declared.Verdict.TheVariants.{Same, Differs}
 use Rattle.demands.specs.Demand1.{layout_numbers, render_numbers, file_numbers, count_numbers}
 use Rattle.demands.specs.Demand3.{Caller, fresh_caller, Made, Promised, after_made, call_made, answer_made, held, HeldAsDue}
 use Rattle.demands.specs.Demand3 as made
 use Rattle.demands.specs.Generator.{writer_numbers, steps_numbers}
 use Rattle.demands.specs.Saves.{batch_numbers}
 use Rattle.demands.specs.Linked.{reason_of, answer_from, checked_from, laying_from, rendering_from, formatted_from, counted_from, wrote_from, batch_from}
-use Rattle.demands.specs.Linked.{columns_from, columns_numbers}
+use Rattle.demands.specs.Linked.{columns_from, columns_numbers, verdict_from}
 use Rattle.demands.specs.Linked.{LinkedPromises, Told, Linked1, Linked2, Holder, fresh_holder, LinkedCall, laid, rendered, LinkedPromised}
 use Rattle.demands.specs.Linked.{after_linked, call_linked, held_linked, made_linked, LinkedCut, Linked3, LinkedCallsHoldAll, LinkedLists, LinkedSingles}
 use Rattle.demands.proofs.Demand1.{Under, under_if, read_under, layout_under, render_under, file_under, count_under, left_same}
@@ -69,6 +73,7 @@ use Rattle.demands.proofs.Saves.{batch_under}
 use Rattle.moves.specs.Moves.{forward_image, back_image, forward_refusal, back_refusal}
 use Rattle.demands.specs.Archive.{move_numbers}
 use Rattle.demands.proofs.Archive.{forward_under, back_under}
+use Rattle.demands.proofs.ReadsBack.{verdict_read, verdict_answer}
 
 -- ---- numbers and answers
 -- an entry's number is not 0
@@ -220,6 +225,19 @@ columns_under rule = under_if columns_numbers (any (chosen_tests false rule)) 20
 batch_reads : (a : BatchResult) → Reads batched_answer batch_from told_batch a
 batch_reads a = record { refusal = λ r rest. refusal_from _ _ r rest; given = λ rest. refl }
 
+verdict_reads : (v : Verdict) → Reads (answer_of (λ v. v)) verdict_from told_verdict v
+verdict_reads Same = record { refusal = λ r rest. refusal_from _ _ r rest; given = λ rest. refl }
+verdict_reads (Differs at) = record { refusal = λ r rest. refusal_from _ _ r rest; given = λ rest. refl }
+
+-- the verdict has two numbers
+verdict_size : (v : Verdict) → length (told_verdict v) ≡ 2
+verdict_size Same = refl
+verdict_size (Differs at) = refl
+
+verdict_told : (s b out out2 : List ℕ) → SaysVerdict s b out out2
+    → out2 ≡ numbers_of told_verdict (answer_by (read_refusal (read_all s b)) (verdict_read b (read_all s b))) out
+verdict_told s b out out2 e = e ∙ ap (λ (a : Answer Verdict). numbers_of told_verdict a out) (verdict_answer b (read_all s b))
+
 -- ---- the promises
 pub linked_promises : LinkedPromises
 linked_promises = record {
@@ -348,6 +366,17 @@ linked_promises = record {
             p.1,
         p.0,
       );
+  reads_back =
+      λ s b out out2 h e.
+      let x = read_all s b in
+      let v = verdict_read b x in
+      let size = verdict_size v in
+      read_back (answer_of (λ (v : Verdict). v)) verdict_from told_verdict reader_numbers (read_refusal x) v out out2 refl refl (read_under s b)
+      (omega arith)
+      (omega (arith, size))
+      (verdict_reads v)
+      (verdict_told s b out out2 e)
+      ∙ sym (verdict_answer b x);
 }
 
 -- ---- demand 1
@@ -431,6 +460,13 @@ linked_1 = record {
       (omega arith)
       (λ r f. p.0 ∙ left_same _ r output _ f)
       p.1;
+  reads_back =
+      λ s b out out2 h e.
+      let x = read_all s b in
+      let v = verdict_read b x in
+      let size = verdict_size v in
+      told_first told_verdict reader_numbers (read_refusal x) v out out2 _ (read_under s b) (omega arith) (omega (arith, size)) (λ r f. tt)
+      (verdict_told s b out out2 e);
 }
 
 -- ---- demand 2: where 0 is first, the answer is the accepted one

@@ -11,6 +11,8 @@ use Rattle.node_widths.specs.Summed.{SuppliedStay}
 use Rattle.moves.specs.Returns.{BackAfterForward, ForwardAfterBack}
 use Rattle.moves.specs.Exact.{TwentyOne}
 use Rattle.demands.specs.Archive.{Archive1}
+use Rattle.readback.specs.ReadsBack.{VerdictHolds}
+use Rattle.demands.specs.ReadsBack.{ReadsBack1}
 use Rattle.renderer_rules.specs.Check.{FaultOfPart}
 use Rattle.renderer_rules.specs.Holds.{WritesPieces, NoSlashAround}
 use Rattle.layout_facts.specs.Accepted.{FewRows, WordsDue}
@@ -135,6 +137,9 @@ pub record TheRequests : Type 0 where
   -- the cut rule "holds at both entries" is `demand_3`, whose calls are of either.
   pub strict_is_in_order : StrictIsInOrder
   pub entries_agree : EntriesAgree
+  -- 11: "The verdict is yes exactly when none does; otherwise the first that does in reading order, by its offset"
+  pub verdict_holds : VerdictHolds
+  pub reads_back_1 : ReadsBack1
 
 -- all of it of the functions that other languages link
 pub record TheLinked : Type 0 where

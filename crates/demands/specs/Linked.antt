@@ -1,8 +1,8 @@
 -- The functions that other languages link, `rrufthim_check`, `rrufthim_layout`, `rrufthim_render`, `rrufthim_format`, `rrufthim_count`,
--- `rrufthim_write`, `rrufthim_steps`, `rrufthim_batch`, `rrufthim_columns`, `rrufthim_forward`,
--- `rrufthim_back` and `rrufthim_layout_archived`, which `archive` tells from `rrufthim_layout`. Their answers and states are arrays of so many
--- numbers. What the numbers of an answer tell is an answer of the function in Rattle, and that function's promise holds of it (`LinkedPromises`). So the three demands and the
--- sentences of requests 4, 5 and 7 hold of what is linked. proofs/Linked.antt proves it.
+-- `rrufthim_write`, `rrufthim_steps`, `rrufthim_batch`, `rrufthim_columns`, `rrufthim_forward`, `rrufthim_back`, `rrufthim_reads_back` and
+-- `rrufthim_layout_archived`, which `archive` tells from `rrufthim_layout`. Their answers and states are arrays of so many numbers. What the
+-- numbers of an answer tell is an answer of the function in Rattle, and that function's promise holds of it (`LinkedPromises`). So the three
+-- demands and the sentences of requests 4, 5, 7 and 11 hold of what is linked. proofs/Linked.antt proves it.
 use Rattle.std.specs.Prelude.{◌≡◌, Bool, true, false, cond, List, [], ◌∷◌, ◌++◌, map, ℕ, eqb, length, get_or, take, drop, replicate, Option}
 use Rattle.std.specs.Prelude.{None, Some, Result, Ok, Err}
 use Rattle.refusals.specs.Refusals.{Refusal, is_one_of}
@@ -50,8 +50,12 @@ use Rattle.exports.specs.Generator.{WritesImage, ListsSteps}
 use Rattle.exports.specs.Saves.{FormatsBatch}
 use Rattle.exports.specs.Measures.{MeasuresText}
 use Rattle.exports.specs.Archive as archive
+use Rattle.exports.specs.Verdict.{SaysVerdict}
 use Rattle.moves.specs.Moves.{forward_refusal, back_refusal}
 use Rattle.moves.specs.Moved.{MovesForward, MovesBack}
+use Rattle.readback.specs.ReadsBack.{ReadsBack}
+use Rattle.readback.specs.declared.Verdict.{Verdict}
+use Rattle.readback.specs.declared.Verdict.TheVariants.{Same, Differs}
 use Rattle.demands.specs.Archive.{move_numbers}
 use Rattle.demands.specs.Demand1.{layout_numbers, render_numbers, file_numbers, count_numbers}
 use Rattle.demands.specs.Demand2.{LaidOutAs, DrawnAs, FileAs}
@@ -121,6 +125,9 @@ batch_from o = answer_from (record { files = get_or o 1 0; bytes = get_or o 2 0 
 abbrev pub columns_from : List ℕ → Result Columns Refused
 columns_from o = answer_from (record { 0 = get_or o 1 0 }) o
 
+abbrev pub verdict_from : List ℕ → Result Verdict Refused
+verdict_from o = answer_from (cond (eqb (get_or o 1 0) 1) Same (Differs (get_or o 2 0))) o
+
 -- the promise of each, by what is promised of the function that is linked
 pub record LinkedPromises : Type 0 where
   pub check : (s b out out2 : List ℕ) → length out ≡ 4 → ChecksFile s b out out2
@@ -146,6 +153,8 @@ pub record LinkedPromises : Type 0 where
       → MovesForward s b output (wrote_from out2) output2
   pub back : (s b output out output2 out2 : List ℕ) → length out ≡ 2 → archive.MovesBack s b output out output2 out2
       → MovesBack s b output (wrote_from out2) output2
+  pub reads_back : (s b out out2 : List ℕ) → length out ≡ 3 → SaysVerdict s b out out2
+      → ReadsBack s b (verdict_from out2)
 
 -- ---- demand 1
 -- the columns of a text: 20 alone
@@ -193,6 +202,8 @@ pub record Linked1 : Type 0 where
       → Told move_numbers (forward_refusal s b (length output)) out2 (output2 ≡ output)
   pub back : (s b output out output2 out2 : List ℕ) → length out ≡ 2 → archive.MovesBack s b output out output2 out2
       → Told move_numbers (back_refusal s b (length output)) out2 (output2 ≡ output)
+  pub reads_back : (s b out out2 : List ℕ) → length out ≡ 3 → SaysVerdict s b out out2
+      → Told reader_numbers (read_refusal (read_all s b)) out2 (Unit {0})
 
 -- ---- demand 2
 -- "Fresh is all 0"

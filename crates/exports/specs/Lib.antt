@@ -5,3 +5,4 @@ pub mod Generator
 pub mod Saves
 pub mod Measures
 pub mod Archive
+pub mod Verdict

@@ -9,6 +9,7 @@ pub mod generator;
 pub mod measures;
 mod numbers;
 pub mod saves;
+pub mod verdict;
 
 ghost use Rattle.std.specs.Prelude.{◌≡◌, false, [], ◌∷◌, length};
 ghost use Rattle.std.proofs.lemmas.List.Edits.{sets};

@@ -4,12 +4,14 @@ ghost use Rattle.std.specs.Prelude.{◌≡◌, ◌<◌, [], ◌∷◌, length};
 ghost use Rattle.refusals.specs.Answers.{numbers_of};
 ghost use Rattle.refusals.specs.Reasons.{answer_of};
 ghost use Rattle.exports.specs.Numbers.{layout_state, layout_args, render_state, render_args, file_choice, tallies_from};
+ghost use Rattle.readback.specs.Verdict.{told_verdict};
 ghost use Rattle.exports.specs.Given.{laid_numbers, written_numbers, text_numbers, counted_numbers, batch_numbers};
 
 use batch::Batch;
 use figures::Counted;
 use file::{FileChoice, Text};
 use layout_call::{Laid, LayoutArgs, LayoutState};
+use readback::Verdict;
 use refusals::Refused;
 use render_call::{RenderArgs, RenderState, Written};
 use renderer_rules::Pen;
@@ -184,6 +186,16 @@ pub(crate) fn batch_numbers(batch: Batch) -> [u64; 2]
     ensures { result ≡ batch_numbers batch }
 {
     [batch.files as u64, batch.bytes as u64]
+}
+
+// What the verdict on a tree tells.
+pub(crate) fn verdict_numbers(verdict: Verdict) -> [u64; 2]
+    ensures { result ≡ told_verdict verdict }
+{
+    match verdict {
+        Verdict::Same => [1, 0],
+        Verdict::Differs(at) => [0, at as u64],
+    }
 }
 
 // What a file that is counted tells.

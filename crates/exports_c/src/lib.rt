@@ -12,6 +12,7 @@ ghost use Rattle.exports.specs.Generator.{WritesImage, ListsSteps};
 ghost use Rattle.exports.specs.Saves.{FormatsBatch};
 ghost use Rattle.exports.specs.Measures.{MeasuresText};
 ghost use Rattle.exports.specs.Archive.{MovesForward, MovesBack};
+ghost use Rattle.exports.specs.Verdict.{SaysVerdict};
 
 #[unsafe(no_mangle)]
 pub extern "C" fn rrufthim_check_s2(source: &[u8], image: &[u8], out: &mut [u64; 4])
@@ -157,4 +158,11 @@ pub extern "C" fn rrufthim_back_s2(
     ensures { MovesBack source.now image.now output.old out.old output.new out.new }
 {
     exports::archive::rrufthim_back_s2(source, image, output, out);
+}
+
+#[unsafe(no_mangle)]
+pub extern "C" fn rrufthim_reads_back_s2(source: &[u8], image: &[u8], out: &mut [u64; 3])
+    ensures { SaysVerdict source.now image.now out.old out.new }
+{
+    exports::verdict::rrufthim_reads_back_s2(source, image, out);
 }

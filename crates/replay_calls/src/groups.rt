@@ -3,6 +3,7 @@ use crate::calls::{ANSWERS, BEFORE_ARCHIVE};
 use crate::cases::{self, replay_case};
 use crate::image_moves::{self, replay_move};
 use crate::step_lists::{self, replay_list};
+use crate::verdicts::{ANSWERS as VERDICTS, replay_verdict};
 use stored_answers::group::filled;
 use stored_answers::report::{replay, show_counts, show_end};
 
@@ -55,4 +56,13 @@ pub(crate) fn moves(rt: &impl Print, answers: &[u8]) {
     let c = replay(rt, answers, |answers| replay_move(answers, &mut buffers));
     show_counts(rt, "moves", &counts);
     show_end(rt, "moves", c);
+}
+
+// Trees that may be read back differently.
+pub(crate) fn verdicts(rt: &impl Print, answers: &[u8]) {
+    let mut counts = [0usize; 9];
+    let c = replay(rt, answers, |answers| replay_verdict(answers, &mut counts));
+    show_counts(rt, "verdicts", &counts[..VERDICTS]);
+    show_counts(rt, "verdicts of no", &counts[VERDICTS..]);
+    show_end(rt, "verdicts", c);
 }

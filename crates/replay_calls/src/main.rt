@@ -1,5 +1,5 @@
-// Runs stored answers against the port (reference/ANSWERS.md): the original's to lists of calls, and those to lists of steps and to moves of
-// images. Each group is a file of data/.
+// Runs stored answers against the port (reference/ANSWERS.md): the original's to lists of calls, and those to lists of steps, to moves of
+// images and to whether trees are read back the same. Each group is a file of data/.
 #![tactic(auto)]
 
 mod calls;
@@ -8,6 +8,7 @@ mod groups;
 mod image_moves;
 mod states;
 mod step_lists;
+mod verdicts;
 
 use stored_answers::group::{ROOM, filled, read};
 
@@ -20,4 +21,6 @@ fn main(rt: HostRuntime) {
     groups::steps(&rt, &input[..n]);
     let n = read(&rt, "moves", &mut input);
     groups::moves(&rt, &input[..n]);
+    let n = read(&rt, "verdicts", &mut input);
+    groups::verdicts(&rt, &input[..n]);
 }

@@ -60,6 +60,18 @@ pub struct BatchWritten {
     pub bytes: usize,
 }
 
+/// What [`reads_back`](super::reads_back) says of a tree.
+#[derive(Clone, Copy, Debug, PartialEq, Eq)]
+pub enum Verdict {
+    /// No operand breaks a rule.
+    Same,
+    /// One does.
+    Differs {
+        /// The offset of the first one's record, in reading order.
+        at: usize,
+    },
+}
+
 /// What [`newlines`](super::newlines) finds in a range of a source.
 #[derive(Clone, Debug, PartialEq, Eq)]
 #[non_exhaustive]

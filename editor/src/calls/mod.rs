@@ -42,7 +42,7 @@ use crate::{
 };
 
 pub use answers::{
-    Accepted, BatchWritten, FileWritten, Laid, Newlines, Written,
+    Accepted, BatchWritten, FileWritten, Laid, Newlines, Verdict, Written,
 };
 pub use args::{LayoutArgs, RenderArgs};
 pub use states::{LayoutState, RenderState};
@@ -68,6 +68,24 @@ pub fn check(file: File<'_>) -> Result<Accepted, Refusal> {
         comments,
         declarations,
         tree,
+    })
+}
+
+/// Whether the tree of an image, of either version, would be read back the
+/// same, by the rules of Roto's src/parser/precedence.rs.
+/// [`reads_back`](crate::reads_back) says the same in words.
+///
+/// # Errors
+///
+/// Refusals 1 to 7.
+pub fn reads_back(file: File<'_>) -> Result<Verdict, Refusal> {
+    let mut out = [0; 3];
+    linked::reads_back(file.source, file.image, &mut out);
+    let [number, same, at] = sizes(out);
+    refused(number, same)?;
+    Ok(match same {
+        0 => Verdict::Differs { at },
+        _ => Verdict::Same,
     })
 }
 

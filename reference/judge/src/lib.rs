@@ -39,6 +39,7 @@ pub mod newlines;
 pub mod program;
 pub mod random;
 pub mod reader;
+pub mod reads_back;
 pub mod refusal;
 pub mod rows;
 pub mod rule;

@@ -37,6 +37,8 @@ usage: judge run [--true-widths] < frame      what the program must write
        judge replay-steps-counts              what it must write of them
        judge replay-moves                     the images to move
        judge replay-moves-counts              what is due for them
+       judge replay-verdicts                  trees, whether they are read back the same
+       judge replay-verdicts-counts           what is due for them
        judge replay-batches                   the batches
        judge replay-batches-counts            what it must write of them
        judge text-answers                     answers of Rust's text functions
@@ -123,6 +125,8 @@ fn command(words: &[&str]) -> Result<Pieces, String> {
         ["replay-steps-counts"] => one(answers::replay::steps_output()),
         ["replay-moves"] => one(answers::replay::moves_input()),
         ["replay-moves-counts"] => one(answers::replay::moves_output()),
+        ["replay-verdicts"] => one(answers::replay::verdicts_input()),
+        ["replay-verdicts-counts"] => one(answers::replay::verdicts_output()),
         ["replay-batches"] => one(answers::replay::batches_input()),
         ["replay-batches-counts"] => one(answers::replay::batches_output()),
         ["text-answers"] => one(answers::text::answers()),

@@ -13,6 +13,8 @@ use crate::{
 mod declarations;
 mod expressions;
 
+pub(crate) use expressions::BIN_OPS;
+
 /// All that the formatter takes, and where its texts lie. Names in the tree
 /// point into the image: they must not be kept longer than this.
 pub struct Input<'i> {

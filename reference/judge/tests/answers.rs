@@ -9,6 +9,7 @@ use judge::{
     examples, explain,
     generate::{self, Class},
     program::{self, Widths},
+    reads_back::{Verdict, reads_back},
     refusal::Refusal,
     steps,
 };
@@ -231,6 +232,39 @@ fn step_answers_are_laid_out_as_described() {
         }
     }
     assert!(written >= 20 && refused >= 90, "{written} and {refused}");
+}
+
+#[test]
+fn verdicts_are_laid_out_as_described() {
+    let file = answers::replay::verdicts_input();
+    let mut input = Input(&file);
+    let [mut same, mut differ, mut refused] = [0; 3];
+    while !input.0.is_empty() {
+        let [source, image] = [(); 2].map(|()| {
+            let length = input.number(4);
+            input.bytes(length)
+        });
+        let number = input.number(2);
+        let place = input.number(4);
+        match reads_back(source, image) {
+            Ok(Verdict::Same) => {
+                same += 1;
+                assert_eq!((number, place), (0, 0));
+            }
+            Ok(Verdict::Differs(at)) => {
+                differ += 1;
+                assert_eq!((number, place), (0, at));
+                // The operand is a 63.
+                assert_eq!(image[at + 4], 63);
+            }
+            Err(refusal) => {
+                refused += 1;
+                let due = (refusal.number.into(), refusal.place as usize);
+                assert_eq!((number, place), due);
+            }
+        }
+    }
+    assert!(same > 150 && differ > 234 && refused > 6, "{same} {differ}");
 }
 
 #[test]

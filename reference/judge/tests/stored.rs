@@ -5,7 +5,7 @@ use std::collections::BTreeSet;
 use judge::{
     answers::{calls, frames, replay, report, stored},
     calls::{Answer, Call, Given, LayoutArgs, World},
-    frame, program, reader,
+    frame, generate, program, reader,
     refusal::Refusal,
     rule::{LEGAL, SUPPLIED},
     table,
@@ -299,6 +299,26 @@ fn moves_take_about_eighty_kilobytes() {
     assert!((30_000..85_000).contains(&bytes), "{bytes}");
 }
 
+/// All pairs of operators on both sides, with each answer to them; of the
+/// others each refusal but 1, whose source is long.
+#[test]
+fn verdicts_take_about_a_hundred_kilobytes() {
+    let bytes = replay::verdicts_input().len();
+    assert!((90_000..120_000).contains(&bytes), "{bytes}");
+    let said = replay::verdicts_output();
+    for number in 2..=7 {
+        let line = format!("verdicts refused with {number}: ");
+        assert!(said.contains(&line), "{said}");
+    }
+    let fixed = generate::operator_cases().iter();
+    let pairs = fixed.filter(|case| {
+        case.stored
+            && case.name.contains("` as ")
+            && case.name.contains("of `")
+    });
+    assert_eq!(pairs.count(), 2 * 14 * 14);
+}
+
 #[test]
 fn batches_take_less_than_eighty_kilobytes() {
     let bytes = replay::batches_input().len();
@@ -314,12 +334,15 @@ fn the_replay_has_these_answers() {
     assert!(read("replay_calls/data/calls") == replay::calls_input());
     assert!(read("replay_calls/data/steps") == replay::steps_input());
     assert!(read("replay_calls/data/moves") == replay::moves_input());
+    let verdicts = replay::verdicts_input();
+    assert!(read("replay_calls/data/verdicts") == verdicts);
     assert!(read("replay_files/data/frames") == replay::frames_input());
     assert!(read("replay_files/data/batches") == replay::batches_input());
     let calls = [
         replay::calls_output(),
         replay::steps_output(),
         replay::moves_output(),
+        replay::verdicts_output(),
     ];
     assert!(read("replay_calls/stdout") == calls.concat().into_bytes());
     let files = [replay::frames_output(), replay::batches_output()];

@@ -9,6 +9,7 @@ use judge::{
     mode::NEW,
     program::{self, Widths},
     reader::{self, Reading},
+    reads_back::{Verdict, reads_back},
     rule::{UNICODE_15_1, UNICODE_16_0},
     script,
     tree::Input,
@@ -311,6 +312,108 @@ fn trees_without_parentheses() {
     let sum = operation(8, value("a"), value("b"));
     let negation = node(64, 0..0, [Some(sum)]);
     assert_row("64 over 63 `+` of `a`, `b`", &printed(negation));
+}
+
+fn over(kind: u8, inner: Option<Tree>) -> Option<Tree> {
+    Some(node(kind, 0..0, [inner]))
+}
+
+fn binary(
+    place: u8,
+    left: Option<Tree>,
+    right: Option<Tree>,
+) -> Option<Tree> {
+    Some(operation(place, left, right))
+}
+
+/// The place in `BinOp` of `+`.
+const ADD: u8 = 8;
+
+/// What is read of a constant's text, by this parser: its value's record; the
+/// page's words for a text that can't be read.
+fn read_again(printed: &str) -> String {
+    let Ok(bytes) = script::frame(printed) else {
+        return "not read".into();
+    };
+    let frame = frame::split(&bytes).expect("a frame");
+    let read = reader::read(frame.source, frame.image).expect("legal");
+    let constant = read.tree.children[1].as_ref().expect("a constant");
+    let value = constant.children[2].as_ref().expect("a value");
+    let shown = words(value, printed);
+    let plain = shown.strip_prefix('(').and_then(|it| it.strip_suffix(')'));
+    plain.unwrap_or(&shown).to_owned()
+}
+
+/// A value with round brackets around each record that is no path, and in which
+/// such a record is an operand.
+fn words(record: &reader::Record, text: &str) -> String {
+    let children = record.children.iter().flatten();
+    let operands = children
+        .filter(|child| (50..=70).contains(&child.kind) && child.kind != 56);
+    let mut shown = String::new();
+    let mut at = record.span.start;
+    for operand in operands {
+        shown += &text[at..operand.span.start];
+        shown += &words(operand, text);
+        at = operand.span.end;
+    }
+    shown += &text[at..record.span.end];
+    match record.kind {
+        56 => shown,
+        _ => format!("({shown})"),
+    }
+}
+
+/// Trees of which yes is said, though their texts are read as others, or not
+/// at all; as the page calls them.
+fn trees_with_a_yes() -> [(&'static str, Option<Tree>); 9] {
+    let sum = || binary(ADD, value("a"), value("b"));
+    let list = Some(node(3, 0..0, []));
+    let assigned = Some(node(61, 0..0, [path("a"), value("b")]));
+    let operator = Some(chosen(86, 0..0, 0, []));
+    let added = Some(node(62, 0..0, [path("a"), operator, value("b")]));
+    let returned = Some(chosen(50, 0..0, 0, [value("a")]));
+    let access = |inner| Some(node(55, 0..0, [inner, name("c")]));
+    let call = Some(node(54, 0..0, [sum(), list]));
+    let negated = || over(64, value("a"));
+    [
+        ("68 over 63 `+` of `a`, `b`", over(68, sum())),
+        ("55 `c` over 63 `+` of `a`, `b`", access(sum())),
+        ("54 without arguments over 63 `+` of `a`, `b`", call),
+        ("68 over 64 over `a`", over(68, negated())),
+        ("55 `c` over 60 over `a`", access(over(60, value("a")))),
+        (
+            "63 `+` of 50 over `a`, `b`",
+            binary(ADD, returned, value("b")),
+        ),
+        (
+            "63 `+` of 61 of `a`, `b`, and `c`",
+            binary(ADD, assigned, value("c")),
+        ),
+        (
+            "63 `+` of 62 `+=` of `a`, `b`, and `c`",
+            binary(ADD, added, value("c")),
+        ),
+        ("64 over 64 over `a`", over(64, negated())),
+    ]
+}
+
+#[test]
+fn trees_of_which_yes_is_said() {
+    for (image, tree) in trees_with_a_yes() {
+        let declaration = constant(name("A"), tree);
+        let bytes = examples::of_source("", vec![], vec![declaration]);
+        let frame = frame::split(&bytes).expect("a frame");
+        let verdict = reads_back(frame.source, frame.image);
+        assert_eq!(verdict, Ok(Verdict::Same), "{image}");
+        let printed = output(&bytes);
+        let again = match &read_again(&printed)[..] {
+            "not read" => "not read".into(),
+            read => format!("`{read}`"),
+        };
+        let row = format!("| {image} | `{printed:?}` | {again} |");
+        assert!(PAGE.contains(&row), "{row}");
+    }
 }
 
 #[test]

@@ -13,6 +13,8 @@ mod moves;
 pub mod port;
 pub mod program;
 #[cfg(feature = "calls")]
+mod reads_back;
+#[cfg(feature = "calls")]
 mod report;
 #[cfg(feature = "stand-in")]
 pub mod stand_in;
@@ -28,6 +30,8 @@ pub use figures::count;
 use judge::refusal::Refusal;
 #[cfg(feature = "calls")]
 pub use moves::moved;
+#[cfg(feature = "calls")]
+pub use reads_back::reads_back;
 #[cfg(feature = "calls")]
 pub use report::report;
 #[cfg(feature = "calls")]

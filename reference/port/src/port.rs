@@ -4,7 +4,7 @@
 #[cfg(feature = "stand-in")]
 pub use crate::stand_in::{
     back, batch, check, columns, count, format, forward, layout,
-    layout_archived, newlines, render, steps, write,
+    layout_archived, newlines, reads_back, render, steps, write,
 };
 
 #[cfg(not(feature = "stand-in"))]
@@ -12,7 +12,7 @@ pub use linked::check;
 #[cfg(all(feature = "calls", not(feature = "stand-in")))]
 pub use linked::{
     back, batch, columns, count, format, forward, layout, layout_archived,
-    newlines, render, steps, write,
+    newlines, reads_back, render, steps, write,
 };
 
 /// Those of the editor's crate, which its tests hold to the library.

@@ -6,6 +6,7 @@ mod moves;
 mod orders;
 mod rules;
 mod steps;
+mod verdicts;
 mod words;
 
 use std::sync::atomic::{AtomicU8, Ordering};
@@ -32,6 +33,7 @@ pub use moves::{back, forward};
 use orders::Entry;
 pub use rules::columns;
 pub use steps::{steps, write};
+pub use verdicts::reads_back;
 use words::respoken;
 
 /// What goes wrong.
@@ -354,10 +356,54 @@ pub enum Fault {
     WriterFirst,
     /// It finds a comment out of order a step late.
     LateUnordered,
+    /// Left and right operands are asked as each other.
+    SidesExchanged,
+    /// Two comparisons are let pass at the left.
+    NotForLeft,
+    /// They are at the right.
+    NotForRight,
+    /// A right operand of its parent's own precedence is let pass.
+    LeftForRight,
+    /// `&&` with `||` is let pass.
+    MixedAllowed,
+    /// An operator under the same one is let pass on either side.
+    SameAllowed,
+    /// What stands over the operand is named.
+    ParentNamed,
+    /// The last operand that breaks a rule is named.
+    LastOperand,
+    /// The outermost is.
+    OutermostOperand,
+    /// Both operands of a record are looked at before what is in them.
+    ByParents,
+    /// A 70 is looked through.
+    ParenthesesLookedThrough,
+    /// A 60 or a 64 is, and is not asked itself.
+    UnaryLookedThrough,
+    /// A 60 over a 63 is let pass.
+    NotLetPass,
+    /// A 64 over a 63 is.
+    NegateLetPass,
+    /// A 63 under a 55 is refused.
+    AccessAsked,
+    /// A 63 under a 68 is.
+    QuestionAsked,
+    /// A 63 under a 70 is.
+    ParenthesesAsked,
+    /// A 63 under any other expression is.
+    OperandOfAny,
+    /// Of yes only one number is written.
+    NoPlaceOfYes,
+    /// A refusal in place of a verdict of no.
+    RefusedVerdict,
+    /// A first byte 2 is refused.
+    VerdictOfOne,
+    /// The verdict is by the earlier rule for comments.
+    VerdictEarlier,
 }
 
 impl Fault {
-    pub const ALL: [Fault; 157] = [
+    pub const ALL: [Fault; 179] = [
         Fault::CheckPlace,
         Fault::Declarations,
         Fault::CommentsLeft,
@@ -515,6 +561,28 @@ impl Fault {
         Fault::WriterOverlap,
         Fault::WriterFirst,
         Fault::LateUnordered,
+        Fault::SidesExchanged,
+        Fault::NotForLeft,
+        Fault::NotForRight,
+        Fault::LeftForRight,
+        Fault::MixedAllowed,
+        Fault::SameAllowed,
+        Fault::ParentNamed,
+        Fault::LastOperand,
+        Fault::OutermostOperand,
+        Fault::ByParents,
+        Fault::ParenthesesLookedThrough,
+        Fault::UnaryLookedThrough,
+        Fault::NotLetPass,
+        Fault::NegateLetPass,
+        Fault::AccessAsked,
+        Fault::QuestionAsked,
+        Fault::ParenthesesAsked,
+        Fault::OperandOfAny,
+        Fault::NoPlaceOfYes,
+        Fault::RefusedVerdict,
+        Fault::VerdictOfOne,
+        Fault::VerdictEarlier,
     ];
 }
 

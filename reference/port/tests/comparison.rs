@@ -18,6 +18,7 @@ const PLAN: Plan = Plan {
     batches: 60,
     reports: 10,
     moves: 150,
+    trees: 400,
 };
 
 const SHORT: Plan = Plan {
@@ -29,6 +30,7 @@ const SHORT: Plan = Plan {
     batches: 0,
     reports: 0,
     moves: 0,
+    trees: 0,
 };
 
 /// One test, since a planted fault holds for all threads.
@@ -88,7 +90,18 @@ fn items(fault: Fault) -> Vec<Item> {
     if fault as u8 >= Fault::OrderForgotten as u8 {
         items.sort_by_key(from_orders);
     }
+    if fault as u8 >= Fault::SidesExchanged as u8 {
+        items.sort_by_key(|item| !is_of_trees(item));
+    }
     items
+}
+
+/// What is asked whether it is read back.
+fn is_of_trees(item: &Item) -> bool {
+    matches!(
+        item,
+        Item::Verdict(_) | Item::FixedVerdict(_) | Item::AnyVerdict(_)
+    )
 }
 
 /// What tries the order of comments comes first, then the longest lists.
@@ -180,6 +193,19 @@ fn items_are_repeated_by_their_names() {
     assert_eq!(Item::from_words("order", 9), Some(Item::Order(9)));
     assert_eq!(Item::from_words("order-list", 1), Some(Item::OrderList(1)));
     assert_eq!(Item::from_words("other", 4), None);
+}
+
+#[test]
+fn verdicts_are_repeated_by_their_names() {
+    assert_eq!(Item::from_words("verdict", 2), Some(Item::Verdict(2)));
+    assert_eq!(
+        Item::from_words("fixed-verdict", 3),
+        Some(Item::FixedVerdict(3))
+    );
+    assert_eq!(
+        Item::from_words("any-verdict", 4),
+        Some(Item::AnyVerdict(4))
+    );
 }
 
 /// Reading the texts is part of making the inputs.

@@ -10,6 +10,7 @@ pub mod report;
 pub mod steps;
 pub mod stored;
 pub mod text;
+pub mod verdicts;
 
 /// Four bytes, big-endian.
 fn put_number(out: &mut Vec<u8>, value: usize) {

@@ -3,7 +3,7 @@
 
 use std::{collections::BTreeMap, fmt::Write};
 
-use super::{batches, calls, frames, moves, steps, stored};
+use super::{batches, calls, frames, moves, steps, stored, verdicts};
 use crate::{
     batch::{self, ROW},
     calls::{self as layout_and_rendering, Call, Given},
@@ -11,6 +11,7 @@ use crate::{
     generate::{self, CallCase},
     moves::moved,
     program::{self, Widths},
+    reads_back::{Verdict, reads_back},
     refusal::Refusal,
     steps as writer,
 };
@@ -75,6 +76,31 @@ pub fn moves_output() -> String {
     }
     put_numbers(&mut out, "moves", &numbers);
     put_end(&mut out, "moves", numbers.values().sum());
+    out
+}
+
+/// The trees with their answers.
+pub fn verdicts_input() -> Vec<u8> {
+    let all = stored::verdicts().into_iter();
+    all.flat_map(|case| verdicts::answered(&case)).collect()
+}
+
+/// How often each answer to a tree is given, and how many verdicts are no; and
+/// that none differs.
+pub fn verdicts_output() -> String {
+    let mut out = String::new();
+    let [mut numbers, mut no] = [const { Numbers::new() }; 2];
+    for case in stored::verdicts() {
+        let answer = reads_back(&case.source, &case.image);
+        if let Ok(Verdict::Differs(_)) = answer {
+            *no.entry(0).or_default() += 1;
+        }
+        let number = answer.err().map_or(0, |refusal| refusal.number);
+        *numbers.entry(number).or_default() += 1;
+    }
+    put_numbers(&mut out, "verdicts", &numbers);
+    put_numbers(&mut out, "verdicts of no", &no);
+    put_end(&mut out, "verdicts", numbers.values().sum());
     out
 }
 

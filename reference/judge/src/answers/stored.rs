@@ -1,13 +1,15 @@
-//! The fixed sets of frames, lists of calls, lists of steps and batches that a
-//! port's own tests keep.
+//! The fixed sets of frames, lists of calls, lists of steps, images to move,
+//! trees and batches that a port's own tests keep.
 
 use std::collections::{BTreeMap, BTreeSet};
 
-use super::{batches, calls, moves};
+use super::{batches, calls, moves, verdicts as trees};
 use crate::{
     examples, frame,
-    generate::{self, BatchCase, CallCase, Class, MoveCase},
+    generate::{self, BatchCase, CallCase, Class, MoveCase, OperatorCase},
     moves::{Way, moved},
+    reader,
+    reads_back::operands,
     steps::{self, Cause},
 };
 
@@ -63,6 +65,14 @@ pub const MOVES: (u64, u64, usize) = (1, 1_500, 1_200);
 /// The most images to move that are kept for a refusal in one way, and
 /// accepted.
 pub const MOVES_EACH: [usize; 2] = [4, 12];
+
+/// The seed of the trees of operators, how many are tried, and the most bytes
+/// of one with its answer that is kept.
+pub const TREES: (u64, u64, usize) = (1, 2_000, 700);
+
+/// The most trees of operators that are kept for a refusal, and for each rule
+/// that is broken first, and for none.
+pub const TREES_EACH: [usize; 2] = [3, 6];
 
 pub fn frames() -> impl Iterator<Item = Vec<u8>> {
     let worked = WORKED.map(|name| examples::frame(name).expect("known"));
@@ -126,6 +136,30 @@ pub fn moves() -> Vec<(Way, MoveCase)> {
                 *known += usize::from(!fixed);
                 stored.push((way, case.clone()));
             }
+        }
+    }
+    stored
+}
+
+/// The trees of the fixed list that are stored, and a few generated ones for
+/// each answer.
+pub fn verdicts() -> Vec<OperatorCase> {
+    let (seed, count, most) = TREES;
+    let fixed = generate::operator_cases().iter();
+    let fixed = fixed.filter(|case| case.stored);
+    let mut stored: Vec<_> = fixed.map(|case| case.of.clone()).collect();
+    let mut kept = BTreeMap::new();
+    for index in 0..count {
+        let case = generate::operator_case(seed, index);
+        let read = reader::read(&case.source, &case.image);
+        let first = |read| operands(&read).first().map(|one| one.rule);
+        let answer = read.map(first);
+        let answer = answer.map_err(|refusal| refusal.number);
+        let each = TREES_EACH[usize::from(answer.is_ok())];
+        let known: &mut usize = kept.entry(answer).or_default();
+        if trees::answered(&case).len() <= most && *known < each {
+            *known += 1;
+            stored.push(case);
         }
     }
     stored

@@ -11,6 +11,7 @@ mod lists;
 mod modes;
 mod move_cases;
 mod moves;
+mod operators;
 mod orders;
 mod random_rows;
 mod ranges;
@@ -43,6 +44,10 @@ pub use lists::{
 };
 pub use move_cases::{Case as FixedMove, cases as move_cases};
 pub use moves::{Case as MoveCase, case as move_case, two_case, two_frame};
+pub use operators::{
+    Case as OperatorCase, FixedCase as FixedOperators, case as operator_case,
+    cases as operator_cases,
+};
 pub use orders::{
     Case as OrderCase, Way as OrderWay, case as order_case,
     list_case as order_list,

@@ -254,7 +254,7 @@ fn wide(columns: usize) -> String {
     "語".repeat(columns / 2) + odd
 }
 
-fn without_widths(tree: &mut Tree) {
+pub(super) fn without_widths(tree: &mut Tree) {
     if tree.kind == 2 {
         tree.payload.drain(..2);
     }

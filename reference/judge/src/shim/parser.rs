@@ -8,6 +8,8 @@ use meta::{Span, Spans};
 #[path = "../../../roto/src/parser/meta.rs"]
 #[allow(dead_code)]
 pub mod meta;
+#[path = "../../../roto/src/parser/precedence.rs"]
+pub mod precedence;
 
 #[derive(Debug)]
 pub struct ParseError;

@@ -4,6 +4,7 @@ mod batches;
 mod moves;
 mod report;
 mod step_lists;
+mod verdicts;
 
 use std::{collections::BTreeMap, fmt::Write};
 
@@ -21,6 +22,7 @@ use crate::{
 use batches::BatchCounts;
 use moves::MoveCounts;
 use step_lists::StepCounts;
+use verdicts::VerdictCounts;
 
 #[derive(Default)]
 struct Counts {
@@ -45,11 +47,7 @@ pub fn table(seed: u64, count: u64) -> String {
     writeln!(out, "    judge table {seed} {count}\n").unwrap();
     let mut all = Counts::default();
     for (class, name) in Class::ALL {
-        let before = all.refusals.get(&0).copied().unwrap_or(0);
-        for bytes in generate::frames(class, seed, count) {
-            all.add(&bytes);
-        }
-        let accepted = all.refusals.get(&0).copied().unwrap_or(0) - before;
+        let accepted = all.add_class(class, seed, count);
         writeln!(out, "- {name}: {count} frames, {accepted} accepted")
             .unwrap();
     }
@@ -78,10 +76,14 @@ pub fn table(seed: u64, count: u64) -> String {
     let (moves, fixed) = MoveCounts::generated(seed, count);
     writeln!(out, "- images to move: {count}, and {fixed} fixed ones")
         .unwrap();
+    let (verdicts, fixed) = VerdictCounts::generated(seed, count);
+    writeln!(out, "- trees of operators: {count}, and {fixed} fixed ones")
+        .unwrap();
     out + &all.report()
         + &lists.report(false)
         + &batches.report(false)
         + &moves.report(false)
+        + &verdicts.report(false)
 }
 
 /// The same table over the stored frames and lists.
@@ -115,13 +117,27 @@ pub fn stored() -> String {
     writeln!(out, "- batches: {count}, {bytes} bytes").unwrap();
     let (moves, count, bytes) = MoveCounts::stored();
     writeln!(out, "- moves: {count}, {bytes} bytes").unwrap();
+    let (verdicts, count, bytes) = VerdictCounts::stored();
+    writeln!(out, "- verdicts: {count}, {bytes} bytes").unwrap();
     out + &all.report()
         + &lists.report(true)
         + &batches.report(true)
         + &moves.report(true)
+        + &verdicts.report(true)
 }
 
 impl Counts {
+    /// So many frames of a class; how many of them are accepted.
+    fn add_class(&mut self, class: Class, seed: u64, count: u64) -> usize {
+        let accepted =
+            |all: &Self| all.refusals.get(&0).copied().unwrap_or(0);
+        let before = accepted(self);
+        for bytes in generate::frames(class, seed, count) {
+            self.add(&bytes);
+        }
+        accepted(self) - before
+    }
+
     fn add(&mut self, bytes: &[u8]) {
         let answer = program::answer(bytes, Widths::Supplied);
         let number = answer.as_ref().err().map_or(0, |r| r.number);

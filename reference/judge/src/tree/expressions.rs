@@ -10,7 +10,8 @@ use crate::{
     reader::Record,
 };
 
-const BIN_OPS: [BinOp; 14] = [
+/// By their places in document 01.
+pub(crate) const BIN_OPS: [BinOp; 14] = [
     BinOp::And,
     BinOp::Or,
     BinOp::Eq,

@@ -5,11 +5,12 @@ use std::{env, process::ExitCode, time::Instant};
 use port::compare::{Item, Plan, Tally, one};
 
 const USAGE: &str = "\
-usage: compare SEED FRAMES [LISTS [FILES [STEPS [BATCHES [REPORTS [MOVES]]]]]]
+usage: compare SEED FRAMES [LISTS [FILES [STEPS [BATCHES [REPORTS [MOVES [TREES]]]]]]]
            FRAMES frames of each class, with widths, with comments at the foot, with wide characters and with comments in any order,
            LISTS lists of calls of each sort,
            FILES files counted, STEPS images to steps and back, and as many lists of steps, BATCHES batches,
-           REPORTS inputs of the program report, MOVES images forward to version 2 and back, and as many of version 2
+           REPORTS inputs of the program report, MOVES images forward to version 2 and back, and as many of version 2,
+           TREES trees of operators to be read back, and as many of all classes
        compare KIND SEED INDEX
            one of them again; KIND as a difference names it
 ";
@@ -51,11 +52,12 @@ fn compare(words: &[&str]) -> Option<Tally> {
             batches: more(3),
             reports: more(4),
             moves: more(5),
+            trees: more(6),
         };
         println!(
             "{} frames of each class, with widths, with comments at the \
              foot, with wide characters and with comments in any order, {} lists of each sort, {} files counted, {} images to \
-             steps and back, {} lists of steps, {} batches, {} reports, {} images forward and back",
+             steps and back, {} lists of steps, {} batches, {} reports, {} images forward and back, {} trees read back",
             plan.frames,
             plan.lists,
             plan.files,
@@ -63,7 +65,8 @@ fn compare(words: &[&str]) -> Option<Tally> {
             plan.steps,
             plan.batches,
             plan.reports,
-            plan.moves
+            plan.moves,
+            plan.trees
         );
         return Some(plan.run());
     }

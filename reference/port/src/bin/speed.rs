@@ -6,7 +6,7 @@ use std::{env, fs, process::ExitCode};
 use judge::reader;
 use port::measure::{self, Line, both, inputs};
 #[cfg(feature = "calls")]
-use port::measure::{batches, documents, moves, steps};
+use port::measure::{batches, documents, moves, steps, verdicts};
 
 fn main() -> ExitCode {
     let paths: Vec<String> = env::args().skip(1).collect();
@@ -14,8 +14,11 @@ fn main() -> ExitCode {
         println!("{notice}\n");
     }
     let mut lines = Vec::new();
-    for input in inputs::growing().into_iter().chain(inputs::all()) {
+    let checked = inputs::growing().into_iter().chain(inputs::all());
+    for input in checked.chain([inputs::operators()]) {
         lines.push(check(&input));
+        #[cfg(feature = "calls")]
+        lines.extend(verdicts::of_files(&input));
     }
     #[cfg(feature = "calls")]
     {

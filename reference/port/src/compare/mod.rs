@@ -32,6 +32,8 @@ mod step_lists;
 mod tally;
 #[cfg(feature = "calls")]
 pub mod texts;
+#[cfg(feature = "calls")]
+mod verdicts;
 mod work;
 
 #[cfg(feature = "calls")]

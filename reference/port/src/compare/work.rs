@@ -105,6 +105,15 @@ pub enum Item {
     /// A list at both entries of layout on such a file.
     #[cfg(feature = "calls")]
     OrderList(u64),
+    /// A tree of operators, damaged or not.
+    #[cfg(feature = "calls")]
+    Verdict(u64),
+    /// A tree of the fixed list.
+    #[cfg(feature = "calls")]
+    FixedVerdict(usize),
+    /// The tree of a file of any class.
+    #[cfg(feature = "calls")]
+    AnyVerdict(u64),
 }
 
 /// All items of a run: so many frames of each class but `sizes`, as many
@@ -118,7 +127,8 @@ pub enum Item {
 /// which comes their fixed list, so many inputs of the program `report`, and so
 /// many images forward to version 2 and back, with as many that may be damaged,
 /// as many files and a fifth as many lists of calls on images of version 2, and
-/// a fixed list of images to move.
+/// a fixed list of images to move; and so many trees of operators to be read
+/// back, with as many of files of any class, and their fixed list.
 #[derive(Clone, Copy, Debug)]
 pub struct Plan {
     pub seed: u64,
@@ -129,6 +139,7 @@ pub struct Plan {
     pub batches: u64,
     pub reports: u64,
     pub moves: u64,
+    pub trees: u64,
 }
 
 const CLASSES: [Class; 4] =
@@ -192,7 +203,21 @@ impl Plan {
         items.extend((0..self.moves).map(Item::Two));
         #[cfg(feature = "calls")]
         items.extend(self.move_items());
+        #[cfg(feature = "calls")]
+        items.extend(self.tree_items());
         items
+    }
+
+    #[cfg(feature = "calls")]
+    fn tree_items(&self) -> impl Iterator<Item = Item> {
+        let fixed = match self.trees {
+            0 => 0,
+            _ => generate::operator_cases().len(),
+        };
+        let fixed = (0..fixed).map(Item::FixedVerdict);
+        let trees = (0..self.trees).map(Item::Verdict);
+        let any = (0..self.trees).map(Item::AnyVerdict);
+        fixed.chain(trees).chain(any)
     }
 
     #[cfg(feature = "calls")]
@@ -402,6 +427,16 @@ fn compare(tally: &mut Tally, item: Item, seed: u64) {
             let case = generate::order_list(seed, index);
             super::lists::compare(tally, "lists, both entries", &case);
         }
+        #[cfg(feature = "calls")]
+        Item::Verdict(index) => super::verdicts::compare(tally, seed, index),
+        #[cfg(feature = "calls")]
+        Item::FixedVerdict(place) => {
+            super::verdicts::compare_fixed(tally, place);
+        }
+        #[cfg(feature = "calls")]
+        Item::AnyVerdict(index) => {
+            super::verdicts::compare_any(tally, seed, index);
+        }
     }
 }
 
@@ -490,6 +525,12 @@ fn name(item: Item, seed: u64) -> String {
         Item::Order(index) => ("order", index),
         #[cfg(feature = "calls")]
         Item::OrderList(index) => ("order-list", index),
+        #[cfg(feature = "calls")]
+        Item::Verdict(index) => ("verdict", index),
+        #[cfg(feature = "calls")]
+        Item::FixedVerdict(place) => ("fixed-verdict", place as u64),
+        #[cfg(feature = "calls")]
+        Item::AnyVerdict(index) => ("any-verdict", index),
     };
     format!("{kind} {seed} {index}")
 }
@@ -553,6 +594,12 @@ impl Item {
             "order" => Some(Item::Order(index)),
             #[cfg(feature = "calls")]
             "order-list" => Some(Item::OrderList(index)),
+            #[cfg(feature = "calls")]
+            "verdict" => Some(Item::Verdict(index)),
+            #[cfg(feature = "calls")]
+            "fixed-verdict" => Some(Item::FixedVerdict(index as usize)),
+            #[cfg(feature = "calls")]
+            "any-verdict" => Some(Item::AnyVerdict(index)),
             _ => Class::from_name(kind).map(|c| Item::Frame(c, index)),
         }
     }

@@ -214,6 +214,35 @@ pub fn growing() -> Vec<Input> {
     sizes.map(input).into()
 }
 
+/// A list of sums of products of names, in which most records are operators
+/// and names, and which is read back the same.
+pub fn operators() -> Input {
+    const COUNT: usize = 3_000;
+    let name = || node(56, 0..0, [Some(node(4, 0..0, [Some(letter())]))]);
+    let operation = |left: Tree, place: u8, right: Tree| {
+        let operator = chosen(86, 0..0, place, []);
+        node(63, 0..0, [left, operator, right].map(Some))
+    };
+    let product = || operation(name(), 10, name());
+    let sum = || operation(product(), 8, product());
+    let elements = (0..COUNT).map(|_| Some(sum()));
+    let value = node(59, 0..0, [Some(node(3, 0..0, elements))]);
+    let constant = [letter(), node(42, 0..0, []), value];
+    let image =
+        image::write(&[], &tree(vec![node(11, 0..0, constant.map(Some))]));
+    Input {
+        name: format!("operators ({} KB of image)", image.len() >> 10),
+        files: vec![File {
+            source: vec![],
+            image,
+        }],
+    }
+}
+
+fn letter() -> Tree {
+    text(0..0, 1, "a")
+}
+
 fn image_of(bytes: usize) -> Vec<u8> {
     let one = declaration();
     let each = image::write(&[], &tree(vec![one.clone()])).len() - 24;

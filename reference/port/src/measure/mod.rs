@@ -13,6 +13,8 @@ mod saves;
 mod stack;
 #[cfg(feature = "calls")]
 pub mod steps;
+#[cfg(feature = "calls")]
+pub mod verdicts;
 
 use std::{fmt::Write, hint::black_box, time::Instant};
 

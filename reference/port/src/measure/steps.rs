@@ -23,7 +23,7 @@ use super::{
     Line, batches, both,
     documents::{self, Document, Empty},
     inputs::{File, Input},
-    moves, stack,
+    moves, stack, verdicts,
 };
 
 /// A file of the port: what it is given, and its buffers.
@@ -498,6 +498,7 @@ fn stack_of_runs(case: &SizeCase) -> Vec<StackLine> {
     });
     lines.extend([batches::stack_of(case, rows), line("count", count)]);
     lines.extend(moves::stack_of(case, rows));
+    lines.push(verdicts::stack_of(case, rows));
     lines
 }
 

@@ -1,0 +1,5 @@
+pub mod Precedence
+pub mod Operands
+pub mod Verdict
+pub mod ReadsBack
+pub mod Standing
