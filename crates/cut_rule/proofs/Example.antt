@@ -5,7 +5,7 @@ use mathlib.Core.Path.{◌≡◌, refl, sym, ap, ap₂, ◌∙◌}
 use mathlib.Core.Bool.{Bool, true, false, cond}
 use Rattle.std.specs.Prelude.{Option, None, Some}
 use mathlib.Core.List.{List, [], ◌∷◌, ◌++◌}
-use Prim.Native.Nat.{ℕ, zero, suc, ◌+◌, ◌-◌, ◌*◌, ◌≤◌, ◌<◌}
+use Prim.Native.Nat.{ℕ, suc, zero, suc, ◌+◌, ◌-◌, ◌*◌, ◌≤◌, ◌<◌}
 use native.Mathlib.Omega.{arith}
 use borrow.Author.Tests.{leb-true, le-leb, ltb-true}
 use lib.Dec.{ltb, leb}
@@ -273,7 +273,7 @@ tried_mixed = refl
 abbrev pen_at : ℕ → ℕ → ℕ → Bool
 pen_at indent next column = any (pen_tests (record { indent = indent; next_indent = next; column = record { 0 = column } }))
 
-tried_pens : pen_at MAX_INDENT MAX_INDENT MAX_COLUMN ∷ pen_at 65 0 0 ∷ pen_at 0 65 0 ∷ pen_at 0 0 72057594037927937 ∷ []
+tried_pens : pen_at MAX_INDENT MAX_INDENT MAX_COLUMN ∷ pen_at (suc MAX_INDENT) 0 0 ∷ pen_at 0 (suc MAX_INDENT) 0 ∷ pen_at 0 0 72057594037927937 ∷ []
     ≡ false ∷ true ∷ true ∷ true ∷ []
 tried_pens = refl
 

@@ -17,7 +17,7 @@ use Rattle.renderer_rules.specs.Page.{page_of}
 use Rattle.renderer_rules.specs.Renderer.{Page, Renderer, fresh_renderer, on_pen, render_node, wraps, virtual_column}
 use Rattle.renderer_rules.specs.Renderer.{group_wraps, trailing_call, callee_wraps, insert, indent_more, next_indent_more}
 use Rattle.renderer_rules.specs.Frames.{frame_at, part_end, wrap_at}
-use Rattle.renderer_rules.specs.Machine.{closing, Machine, opened, passed, reopened, closed_to, frame_of, enter}
+use Rattle.renderer_rules.specs.Machine.{closing, Machine, opened, passed, reopened, closed_to, frame_of, call_frame, enter}
 use Rattle.renderer_rules.specs.Machine.{enter_group, enter_indent, enter_next, enter_leaf, enter_if, enter_call, leave, turn}
 use Rattle.renderer_rules.proofs.Machine.{enter_0, enter_1, enter_2, enter_leaf_lem, enter_10, enter_11, turn_leave}
 use Rattle.renderer_rules.specs.declared.Pen.{Pen}
@@ -107,7 +107,7 @@ module _ (store source image : List ℕ) (max limit : ℕ) (marks out : List ℕ
       ∙ sym (g.is_wraps
       ∙ ap (λ (k : ℕ). group_wraps (page_of max [] []) (nodes_at v k (v.after r.next)) (fresh_renderer r.writing.pen marks)) (add-one r.next)) in
       rw c
-      (opened_shows limit o out b n r marks marks2 q (frame_of r.next g.wraps false false) (suc r.next) (r.next + 1) r.writing _ w g.run
+      (opened_shows limit o out b n r marks marks2 q (frame_of r.next g.wraps false) (suc r.next) (r.next + 1) r.writing _ w g.run
       (sym (add-one r.next))
       (insert_same g.wraps (v.number r.next) r.writing marks b ∙ ap (λ (m : List ℕ). state_of r.writing m b) (sym g.marked))
       refl)
@@ -119,38 +119,38 @@ module _ (store source image : List ℕ) (max limit : ℕ) (marks out : List ℕ
       record { goes = λ o b n w. shows_as limit o marks2 out q _ _ (enter_0 v pg (machine_of r marks b n) k) (group_goes marks2 q g o b n w) }
 
   indent_goes : (q : Running) (x : Bool) → x ≡ wrap
-      → q ≡ opened_run r (frame_of r.next x false false) (r.next + 1) (set_pen (indent_more x r.writing.pen) r.writing)
+      → q ≡ opened_run r (frame_of r.next x false) (r.next + 1) (set_pen (indent_more x r.writing.pen) r.writing)
       → (o b : List ℕ) (n : ℕ) → Wrote limit o out r.writing.at.0 b → Shows limit o marks out q (enter_indent v pg (machine_of r marks b n))
   unfolding enter_indent machine_of
   indent_goes q x e g o b n w =
       rw (← e)
-      (opened_shows limit o out b n r marks marks q (frame_of r.next x false false)
+      (opened_shows limit o out b n r marks marks q (frame_of r.next x false)
       (suc r.next) (r.next + 1) (set_pen (indent_more x r.writing.pen) r.writing) _ w g
       (sym (add-one r.next))
       refl
       refl)
 
   pub indent_follows : (q : Running) (x : Bool) → cell store r.next KIND ≡ INDENT → x ≡ wrap
-      → q ≡ opened_run r (frame_of r.next x false false) (r.next + 1) (set_pen (indent_more x r.writing.pen) r.writing)
+      → q ≡ opened_run r (frame_of r.next x false) (r.next + 1) (set_pen (indent_more x r.writing.pen) r.writing)
       → Follows limit (enter v pg) marks out r marks out q
   unfolding machine_of view_of
   indent_follows q x k e g =
       record { goes = λ o b n w. shows_as limit o marks out q _ _ (enter_1 v pg (machine_of r marks b n) k) (indent_goes q x e g o b n w) }
 
   next_goes : (q : Running) (x : Bool) → x ≡ wrap
-      → q ≡ opened_run r (frame_of r.next x false false) (r.next + 1) (set_pen (next_indent_more x r.writing.pen) r.writing)
+      → q ≡ opened_run r (frame_of r.next x false) (r.next + 1) (set_pen (next_indent_more x r.writing.pen) r.writing)
       → (o b : List ℕ) (n : ℕ) → Wrote limit o out r.writing.at.0 b → Shows limit o marks out q (enter_next v pg (machine_of r marks b n))
   unfolding enter_next machine_of
   next_goes q x e g o b n w =
       rw (← e)
-      (opened_shows limit o out b n r marks marks q (frame_of r.next x false false)
+      (opened_shows limit o out b n r marks marks q (frame_of r.next x false)
       (suc r.next) (r.next + 1) (set_pen (next_indent_more x r.writing.pen) r.writing) _ w g
       (sym (add-one r.next))
       refl
       refl)
 
   pub next_follows : (q : Running) (x : Bool) → cell store r.next KIND ≡ INDENT_NEXT → x ≡ wrap
-      → q ≡ opened_run r (frame_of r.next x false false) (r.next + 1) (set_pen (next_indent_more x r.writing.pen) r.writing)
+      → q ≡ opened_run r (frame_of r.next x false) (r.next + 1) (set_pen (next_indent_more x r.writing.pen) r.writing)
       → Follows limit (enter v pg) marks out r marks out q
   unfolding machine_of view_of
   next_follows q x k e g =
@@ -159,8 +159,8 @@ module _ (store source image : List ℕ) (max limit : ℕ) (marks out : List ℕ
   if_goes : (q : Running) (x : Bool) → x ≡ wrap
       → q
       ≡ cond (wrapped marks (cell store r.next NUMBER))
-      (opened_run r (frame_of r.next x true false) (r.next + 1) r.writing)
-      (opened_run r (frame_of r.next x false false) (cell store r.next SECOND) r.writing)
+      (opened_run r (frame_of r.next x true) (r.next + 1) r.writing)
+      (opened_run r (frame_of r.next x false) (cell store r.next SECOND) r.writing)
       → (o b : List ℕ) (n : ℕ) → Wrote limit o out r.writing.at.0 b → Shows limit o marks out q (enter_if v pg (machine_of r marks b n))
   unfolding enter_if machine_of view_of
   if_goes q x e g o b n w = rw (← e) (go (wrapped marks (cell store r.next NUMBER)) g)
@@ -170,24 +170,24 @@ module _ (store source image : List ℕ) (max limit : ℕ) (marks out : List ℕ
 
       go : (t : Bool)
           → q
-          ≡ cond t (opened_run r (frame_of r.next x true false) (r.next + 1) r.writing)
-          (opened_run r (frame_of r.next x false false) (cell store r.next SECOND) r.writing)
+          ≡ cond t (opened_run r (frame_of r.next x true) (r.next + 1) r.writing)
+          (opened_run r (frame_of r.next x false) (cell store r.next SECOND) r.writing)
           → Shows limit o marks out q
           (cond t
-          (opened m (frame_of r.next x true false) (suc r.next) (state_of r.writing marks b))
-          (opened m (frame_of r.next x false false) (cell store r.next SECOND) (state_of r.writing marks b)))
+          (opened m (frame_of r.next x true) (suc r.next) (state_of r.writing marks b))
+          (opened m (frame_of r.next x false) (cell store r.next SECOND) (state_of r.writing marks b)))
       go true h =
-          opened_shows limit o out b n r marks marks q (frame_of r.next x true false)
+          opened_shows limit o out b n r marks marks q (frame_of r.next x true)
           (suc r.next) (r.next + 1) r.writing _ w h (sym (add-one r.next)) refl refl
       go false h =
-          opened_shows limit o out b n r marks marks q (frame_of r.next x false false)
+          opened_shows limit o out b n r marks marks q (frame_of r.next x false)
           (cell store r.next SECOND) (cell store r.next SECOND) r.writing _ w h refl refl refl
 
   pub if_follows : (q : Running) (x : Bool) → cell store r.next KIND ≡ IF_WRAP → x ≡ wrap
       → q
       ≡ cond (wrapped marks (cell store r.next NUMBER))
-      (opened_run r (frame_of r.next x true false) (r.next + 1) r.writing)
-      (opened_run r (frame_of r.next x false false) (cell store r.next SECOND) r.writing)
+      (opened_run r (frame_of r.next x true) (r.next + 1) r.writing)
+      (opened_run r (frame_of r.next x false) (cell store r.next SECOND) r.writing)
       → Follows limit (enter v pg) marks out r marks out q
   unfolding machine_of view_of
   if_follows q x k e g =
@@ -209,7 +209,7 @@ module _ (store source image : List ℕ) (max limit : ℕ) (marks out : List ℕ
       ∙ ap (λ (k : ℕ). callee_wraps (page_of max [] []) g.trails (nodes_at v k (v.second r.next)) a (fresh_renderer r.writing.pen marks))
       (add-one r.next)) in
       rw (t, c)
-      (opened_shows limit o out b n r marks marks2 q (frame_of r.next g.wraps true (not g.trails && g.wraps)) (suc r.next) (r.next + 1)
+      (opened_shows limit o out b n r marks marks2 q (call_frame r.next g.wraps true (not g.trails && g.wraps) (not g.trails)) (suc r.next) (r.next + 1)
       (set_pen (next_indent_more (not g.trails && g.wraps) r.writing.pen) r.writing)
       _
       w
@@ -290,7 +290,7 @@ module _ (store source image : List ℕ) (max limit : ℕ) (marks out : List ℕ
           same =
               ap
               (λ (d : ℕ).
-              closed_to (reopened (machine_of r marks b n) (r.depth - 1) (frame_of f.row g.wraps false f.deeper)
+              closed_to (reopened (machine_of r marks b n) (r.depth - 1) (call_frame f.row g.wraps false f.deeper f.made)
               (state_of r.writing (inserted g.wraps (cell store f.row SECOND_NUMBER) marks) b))
               d r.next
               (state_of r.writing (inserted g.wraps (cell store f.row SECOND_NUMBER) marks) b))

@@ -1,3 +1,7 @@
+pub mod Looping
+pub mod Halting
+pub mod Walking
+pub mod LeafRun
 pub mod Decided
 pub mod Writes
 pub mod Followed

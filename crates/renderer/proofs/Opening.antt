@@ -9,7 +9,7 @@ use Rattle.rows.specs.View.{view_of, cell, nodes_at}
 use Rattle.rows.specs.Nesting.{Nested}
 use Rattle.renderer_rules.specs.Page.{page_of}
 use Rattle.renderer_rules.specs.Renderer.{fresh_renderer, trailing_call, callee_wraps, next_indent_more}
-use Rattle.renderer_rules.specs.Machine.{frame_of}
+use Rattle.renderer_rules.specs.Machine.{call_frame}
 use Rattle.renderer_rules.specs.declared.Pen.{Pen}
 use Rattle.renderer.specs.declared.writing.Writing.{Writing}
 use Rattle.renderer.specs.Writing.{set_pen}
@@ -38,7 +38,7 @@ module _ (store : List ℕ) (max : ℕ) (marks : List ℕ) (r : Running) (marks2
       → p ≡ next_indent_more deeper r.writing.pen
       → x ≡ set_pen p r.writing
       → marks2 ≡ inserted w number marks
-      → q ≡ opened_run r (frame_of r.next w true deeper) (r.next + 1) x
+      → q ≡ opened_run r (call_frame r.next w true deeper (not t)) (r.next + 1) x
       → CallOpened store max marks r marks2 q
   call_opened mid end number t w deeper p x a b n g h d k s m o =
       record {

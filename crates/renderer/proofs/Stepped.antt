@@ -8,7 +8,7 @@ use mathlib.Core.Bool.{Bool, true, false, cond, ◌&&◌, ◌||◌}
 use mathlib.Core.List.{List}
 use lib.ListN.{length}
 use lib.Dec.{ltb, eqb}
-use borrow.Author.Tests.{ne_eqb, eqb-true, eqb-false, lt-ltb, le-ltb, ltb-true, ltb-false}
+use borrow.Author.Tests.{eqb-true, eqb-false, le-ltb, ltb-true, ltb-false}
 use Rattle.renderer.specs.Limits.{BEFORE_ROW, MAX_MARGIN}
 use Rattle.rows.specs.Limits.{MAX_ROWS}
 use Rattle.rows.specs.Kinds.{GROUP, INDENT, INDENT_NEXT, WRAP_PARENT, CALL}
@@ -20,27 +20,16 @@ use Rattle.renderer_rules.specs.declared.Frame.{Frame}
 use Rattle.renderer_rules.specs.Page.{page_of}
 use Rattle.renderer_rules.specs.Renderer.{Page, Renderer, on_pen, indent_more, indent_less, next_indent_more, next_indent_less}
 use Rattle.renderer_rules.specs.Frames.{frame_at, part_end, part_limit, wrap_at, Open}
-use Rattle.renderer_rules.specs.Machine.{closing, frame_of, enter, turn}
-use Rattle.renderer_rules.proofs.Opened.{at_top, limit_zero, limit_pos, wrap_at_zero, wrap_at_pos}
+use Rattle.renderer_rules.specs.Machine.{closing, closes, frame_of, enter, turn}
+use Rattle.renderer_rules.proofs.Opened.{at_top, limit_pos}
 use Rattle.renderer_rules.proofs.Machine.{turn_enter}
 use Rattle.renderer_rules.specs.Safe.{steps, ins, steps_back, ins_of}
 use Rattle.renderer_rules.proofs.Safe.{steps_le, closing_plain, closing_indent, closing_next, closing_call, indent_steps, next_steps, call_steps}
 use Rattle.renderer_rules.specs.declared.Pen.{Pen}
 use Rattle.renderer.specs.Writing.{set_pen, WritingRoom}
 use Rattle.renderer.specs.Run.{Running, machine_of, Follows, Ready, Enters}
-use Rattle.renderer.specs.Run.{Entering, Leaves, Backs, Left, goes_on, ends, opened_run, closes}
+use Rattle.renderer.specs.Run.{Entering, Leaves, Backs, Left, goes_on, ends, opened_run}
 use Rattle.renderer.proofs.Followed.{shows_as, indent_follows, next_follows, arguments_follows, closed_follows}
-
--- the open part is not done: no row is open, or another is next
-pub undone_none : (d : ℕ) (b : Bool) → d ≤ 0 → (ltb 0 d && b) ≡ false
-undone_none d b h = rw (le-ltb 0 d h)
-
-pub undone_other : (d n e e2 : ℕ) → e ≡ e2 → (n ≡ e → ⊥) → (ltb 0 d && eqb n e2) ≡ false
-undone_other d n e e2 i k = go (ltb 0 d) (ne_eqb n e2 (λ z. k (z ∙ sym i)))
-  where
-    go : (b : Bool) → eqb n e2 ≡ false → (b && eqb n e2) ≡ false
-    go true h = h
-    go false h = refl
 
 pub parts_high : (k : ℕ) → 3 ≤ k → ltb 9 k ≡ (ltb k 3 || ltb 9 k)
 parts_high k h = sym (rw (le-ltb k 3 h))
@@ -170,7 +159,7 @@ module _ (store source image : List ℕ) (max limit stop : ℕ) (marks out : Lis
   pub indents_follow : (kind : ℕ) (q : Running) (w : Bool) → kind ≡ cell store r.next KIND → (kind ≡ GROUP → ⊥) → kind < WRAP_PARENT
       → w ≡ wrap_at r.frames r.depth
       → q
-      ≡ opened_run r (frame_of r.next w false false) (r.next + 1)
+      ≡ opened_run r (frame_of r.next w false) (r.next + 1)
       (set_pen (cond (eqb kind 1) (indent_more w r.writing.pen) (next_indent_more w r.writing.pen)) r.writing)
       → Follows limit (enter v pg) marks out r marks out q
   indents_follow zero q w k a b e o = absurd (a refl)
@@ -187,28 +176,12 @@ module _ (store source image : List ℕ) (max limit stop : ℕ) (marks out : Lis
       record { goes = λ o b k w. shows_as limit o marks2 out2 q _ _ (turn_enter v pg stop (machine_of r marks b k) n.inside) (g.goes o b k w) }
 
   module _ (y : Ready store source image max limit stop marks out r) where
-    pub top_entering : r.depth ≡ 0 → r.next < stop → Entering store source image max limit stop marks out r
-    top_entering e h = record { ready = y; inside = let l = limit_zero v pg stop r.frames r.depth e in omega arith }
-
-    pub top_wrap : r.depth ≡ 0 → true ≡ wrap_at r.frames r.depth
-    top_wrap e = sym (wrap_at_zero v pg stop r.frames r.depth e)
-
     module _ (f : Frame) (h : 0 < r.depth) (i : f ≡ frame_at r.frames (r.depth - 1)) where
       opened_row : Open v stop r.frames (r.depth - 1)
       opened_row = at_top v pg stop r.frames r.depth r.next h y.at
 
       limit_is : part_limit v stop r.frames r.depth ≡ part_end v f
       limit_is = limit_pos v pg stop r.frames r.depth h ∙ ap (part_end v) (sym i)
-
-      pub in_entering : (e : ℕ) → e ≡ part_end v f → (r.next ≡ e → ⊥) → Entering store source image max limit stop marks out r
-      in_entering e k n =
-          record { ready = y; inside = lt_of r.next e (part_limit v stop r.frames r.depth) (k ∙ sym limit_is) (nests_le y.at.good) n }
-        where
-          lt_of : (a b c : ℕ) → b ≡ c → a ≤ c → (a ≡ b → ⊥) → a < c
-          lt_of a b c e l n = omega arith
-
-      pub in_wrap : f.wrap ≡ wrap_at r.frames r.depth
-      in_wrap = ap (λ (x : Frame). x.wrap) i ∙ sym (wrap_at_pos v pg stop r.frames r.depth h)
 
       in_depth : (d : ℕ) → r.depth ≡ d → (ins_of v f ≤ r.writing.pen.indent) × (steps_back v f ≤ r.writing.pen.indent + r.writing.pen.next_indent)
       unfolding machine_of steps ins
@@ -253,7 +226,7 @@ module _ (store source image : List ℕ) (max limit stop : ℕ) (marks out : Lis
           }
 
       closing_closes : (t : Renderer) → (cell store f.row KIND ≡ CALL → f.first ≡ false)
-          → closing v pg f t ≡ on_pen (closes (cell store f.row KIND) f) t
+          → closing v pg f t ≡ on_pen (closes (cell store f.row KIND) f.wrap f.deeper) t
       unfolding view_of
       closing_closes t e =
           go (eqb (cell store f.row KIND) INDENT) (eqb (cell store f.row KIND) INDENT_NEXT) (eqb (cell store f.row KIND) CALL) refl refl refl
@@ -283,28 +256,8 @@ module _ (store source image : List ℕ) (max limit stop : ℕ) (marks out : Lis
       left_follows marks2 q z (ends e m o) =
           subst (λ (x : List ℕ). Follows limit (turn v pg) marks out r x out q) (sym m)
           (closed_follows store source image max limit marks out r h f i z
-          (closes (cell store f.row KIND) f)
+          (closes (cell store f.row KIND) f.wrap f.deeper)
           q
           (not_on e)
           (λ t. closing_closes t e)
           o)
-
-  -- A turn, by the innermost row as the code has it.
-  module _ (y : Ready store source image max limit stop marks out r) (n : r.depth ≡ 0 → r.next < stop) (f : Frame)
-      (i : f ≡ cond (ltb 0 r.depth) (frame_at r.frames (r.depth - 1)) (frame_of 0 true false false))
-    where
-      pub innermost_is : 0 < r.depth → f ≡ frame_at r.frames (r.depth - 1)
-      innermost_is h = i ∙ rw (lt-ltb 0 r.depth h)
-
-      pub turn_enters : (ltb 0 r.depth && eqb r.next (part_end v f)) ≡ false
-          → Entering store source image max limit stop marks out r × (f.wrap ≡ wrap_at r.frames r.depth)
-      turn_enters e = go r.depth refl
-        where
-          go : (d : ℕ) → r.depth ≡ d → Entering store source image max limit stop marks out r × (f.wrap ≡ wrap_at r.frames r.depth)
-          go zero q =
-              let a : f ≡ frame_of 0 true false false = i ∙ rw q in
-              (top_entering y q (n q), ap (λ (x : Frame). x.wrap) a ∙ top_wrap y q)
-          go (suc d) q =
-              let h : 0 < r.depth = omega arith in
-              let k : eqb r.next (part_end v f) ≡ false = sym (rw (lt-ltb 0 r.depth h)) ∙ e in
-              (in_entering y f h (innermost_is h) (part_end v f) refl (eqb-false _ _ k), in_wrap y f h (innermost_is h))

@@ -8,7 +8,7 @@ use native.Mathlib.Numerals.{add-one}
 use mathlib.Core.Bool.{true, false}
 use mathlib.Core.List.{List, [], ◌∷◌}
 use lib.ListN.{length}
-use Rattle.rows.specs.Limits.{CELL_LIMIT, MAX_DEPTH, MAX_ROWS}
+use Rattle.rows.specs.Limits.{CELL_LIMIT, MAX_DEPTH}
 use Rattle.rows.specs.Kinds.{IF_WRAP}
 use Rattle.rows.specs.Places.{KIND, NUMBER, SECOND, AFTER}
 use Rattle.rows.specs.Node.{Nodes, widths, wrapped, byte_columns}

@@ -6,12 +6,11 @@ use native.Mathlib.Omega.{arith}
 use native.Mathlib.Numerals.{add-one}
 use mathlib.Core.Bool.{Bool, true, false, cond}
 use mathlib.Core.List.{List, [], ◌∷◌, ◌++◌}
-use lib.ListN.{length, set, take, drop, replicate, length-set, length-take, length-drop, length-replicate, drop_of_length-le}
-use lib.Seq.{sets, set_out, take-nil}
-use Rattle.std.proofs.lemmas.List.{take_min}
+use lib.ListN.{length, set, take, replicate, length-set, length-take, length-drop, length-replicate}
+use lib.Seq.{sets, set_out}
 use borrow.Rule.Slice.PartMut.{put_mid, mid_of, mid_len}
-use lib.Dec.{ltb, leb}
-use borrow.Author.Tests.{lt-ltb, le-ltb, ltb-true, ltb-false, leb-true, leb-false}
+use lib.Dec.{ltb}
+use borrow.Author.Tests.{lt-ltb, le-ltb, ltb-true, ltb-false}
 use Rattle.rows.proofs.Part.{part_sets}
 use Rattle.rows.specs.Texts.{origin_text}
 use Rattle.renderer_rules.specs.Page.{text_bytes, text_of}

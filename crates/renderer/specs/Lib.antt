@@ -1,5 +1,6 @@
+pub mod Halts
 pub mod Limits
 pub mod Measure
 pub mod Output
-pub mod Writing
 pub mod Run
+pub mod Writing

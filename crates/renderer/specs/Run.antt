@@ -1,5 +1,5 @@
 -- The contracts of the rendering loop: the run of the code as the machine, and what each of its functions does.
-use Rattle.std.specs.Prelude.{ℕ, ◌+◌, ◌*◌, ◌-◌, ◌≤◌, ◌<◌, ◌≡◌, Bool, true, false, cond, not, ◌&&◌, List, [], length, set, eqb}
+use Rattle.std.specs.Prelude.{ℕ, ◌+◌, ◌*◌, ◌-◌, ◌≤◌, ◌<◌, ◌≡◌, Bool, true, false, cond, not, ◌&&◌, List, [], length, set}
 use Rattle.rows.specs.Kinds.{INDENT, INDENT_NEXT, CALL}
 use Rattle.rows.specs.Places.{KIND, NUMBER, SECOND_NUMBER, SECOND, AFTER, WIDTH, PLACES}
 use Rattle.rows.specs.Limits.{MAX_ROWS, MAX_DEPTH}
@@ -11,14 +11,13 @@ use Rattle.rows.specs.Node.{widths, byte_columns}
 use Rattle.renderer_rules.specs.declared.Frame.{Frame}
 use Rattle.renderer_rules.specs.declared.Pen.{Pen}
 use Rattle.renderer_rules.specs.Renderer.{Renderer, fresh_renderer, with_buf, with_widest, render_nodes}
-use Rattle.renderer_rules.specs.Renderer.{virtual_column, group_wraps, trailing_call, callee_wraps, indent_less, next_indent_more, next_indent_less}
+use Rattle.renderer_rules.specs.Renderer.{virtual_column, group_wraps, trailing_call, callee_wraps, next_indent_more}
 use Rattle.renderer_rules.specs.Page.{page_of}
 use Rattle.renderer_rules.specs.Frames.{part_limit, At}
-use Rattle.renderer_rules.specs.Machine.{Machine, frame_of, turn}
+use Rattle.renderer_rules.specs.Machine.{Machine, frame_of, call_frame, closes}
 use Rattle.renderer_rules.specs.Safe.{Safe, SmallTexts}
 use Rattle.renderer.specs.declared.writing.Writing.{Writing}
 use Rattle.renderer.specs.declared.run.Renderer.{Renderer as Held}
-use Rattle.rows.specs.declared.texts.Rows.{Rows}
 use Rattle.renderer.specs.Output.{written_over}
 use Rattle.renderer.specs.Writing.{set_pen}
 
@@ -102,6 +101,7 @@ pub record Lent (r q : Held) : Type 0 where
 -- a step that writes nothing, and one that marks nothing either
 pub record Unwritten (r q : Held) : Type 0 where
   pub lent : Lent r q
+  pub mark : q.mark ≡ r.mark
   pub out : q.out.now ≡ r.out.now
 
 pub record Unmarked (r q : Held) : Type 0 where
@@ -112,15 +112,7 @@ pub record Unmarked (r q : Held) : Type 0 where
 pub record Turns (f : Machine → Machine) (r q : Held) : Type 0 where
   pub follows : Follows (length r.out.now) f r.marks.now r.out.now (run_of r) q.marks.now q.out.now (run_of q)
   pub lent : Lent r q
-
--- the renderer takes a turn: it is ready, and not done yet
-pub record Turning (rows : Rows) (r : Held) : Type 0 where
-  pub stop : ℕ
-  pub ready : Ready rows.store.now rows.source.now rows.image.now r.max.0 (length r.out.now) stop r.marks.now r.out.now (run_of r)
-  pub more : r.frames.depth ≡ 0 → r.next < stop
-
-abbrev pub Turned : Rows → Held → Held → Type 0
-Turned rows r q = Turns (turn (view_of rows.store.now) (page_of r.max.0 rows.source.now rows.image.now)) r q
+  pub mark : q.mark ≡ r.mark
 
 -- a run that opens a row, which reads no text and writes none
 pub record OpensRow (store : List ℕ) (max : ℕ) (marks : List ℕ) (r : Running) : Type 0 where
@@ -140,7 +132,7 @@ pub record GroupOpened (store : List ℕ) (max : ℕ) (marks : List ℕ) (r : Ru
   pub wraps : Bool
   pub is_wraps :
       wraps ≡ group_wraps (page_of max [] []) (nodes_at (view_of store) (r.next + 1) (cell store r.next AFTER)) (fresh_renderer r.writing.pen marks)
-  pub run : q ≡ opened_run r (frame_of r.next wraps false false) (r.next + 1) r.writing
+  pub run : q ≡ opened_run r (frame_of r.next wraps false) (r.next + 1) r.writing
   pub marked : marks2 ≡ inserted wraps (cell store r.next NUMBER) marks
 
 -- A `Call` is opened: which way it goes, whether its callee wraps, the run and the marks.
@@ -161,7 +153,7 @@ pub record CallOpened (store : List ℕ) (max : ℕ) (marks : List ℕ) (r : Run
       (fresh_renderer r.writing.pen marks)
   pub run :
       q
-      ≡ opened_run r (frame_of r.next wraps true (not trails && wraps)) (r.next + 1)
+      ≡ opened_run r (call_frame r.next wraps true (not trails && wraps) (not trails)) (r.next + 1)
       (set_pen (next_indent_more (not trails && wraps) r.writing.pen) r.writing)
   pub marked : marks2 ≡ inserted wraps (cell store r.next NUMBER) marks
 
@@ -169,15 +161,8 @@ pub record CallOpened (store : List ℕ) (max : ℕ) (marks : List ℕ) (r : Run
 pub record ArgumentsOpened (store : List ℕ) (max : ℕ) (marks : List ℕ) (r : Running) (f : Frame) (marks2 : List ℕ) (q : Running) : Type 0 where
   pub wraps : Bool
   pub is_wraps : wraps ≡ group_wraps (page_of max [] []) (nodes_at (view_of store) r.next (cell store f.row AFTER)) (fresh_renderer r.writing.pen marks)
-  pub run : q ≡ reopened_run r (frame_of f.row wraps false f.deeper)
+  pub run : q ≡ reopened_run r (call_frame f.row wraps false f.deeper f.made)
   pub marked : marks2 ≡ inserted wraps (cell store f.row SECOND_NUMBER) marks
-
--- what the end of a row does to the pen, by its kind
-abbrev pub closes : ℕ → Frame → Pen → Pen
-closes kind f p =
-    cond (eqb kind INDENT)
-    (indent_less f.wrap p)
-    (cond (eqb kind INDENT_NEXT) (next_indent_less f.wrap p) (cond (eqb kind CALL) (next_indent_less f.deeper p) p))
 
 -- the step back that the end of a row takes is there
 pub record Backs (kind : ℕ) (f : Frame) (p : Pen) : Type 0 where
@@ -201,7 +186,7 @@ abbrev pub closed_at : Running → ℕ → Pen → Running
 closed_at r k p = record { frames = r.frames; depth = r.depth - 1; next = k; writing = set_pen p r.writing }
 
 abbrev pub closed_run : List ℕ → Running → Frame → Running
-closed_run store r f = closed_at r (cell store f.row AFTER) (closes (cell store f.row KIND) f r.writing.pen)
+closed_run store r f = closed_at r (cell store f.row AFTER) (closes (cell store f.row KIND) f.wrap f.deeper r.writing.pen)
 
 -- The innermost row is left: the arguments of a `Call` are opened, or the row is closed.
 pub data Left (store : List ℕ) (max : ℕ) (marks : List ℕ) (r : Running) (f : Frame) (marks2 : List ℕ) (q : Running) : Type 0 where

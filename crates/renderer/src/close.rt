@@ -3,7 +3,8 @@ ghost use Rattle.std.specs.Prelude.{◌≡◌, ◌+◌, ◌*◌, ◌<◌, length
 ghost use Rattle.rows.specs.Places.{KIND, WIDTH, PLACES};
 ghost use Rattle.rows.specs.View.{view_of, cell};
 ghost use Rattle.renderer_rules.specs.Frames.{part_end};
-ghost use Rattle.renderer.specs.Run.{run_of, closed_run, closes, Backs, Leaves, Left, Unmarked, Unwritten};
+ghost use Rattle.renderer_rules.specs.Machine.{closes};
+ghost use Rattle.renderer.specs.Run.{run_of, closed_run, Backs, Leaves, Left, Unmarked, Unwritten};
 
 use crate::run::Renderer;
 use renderer_rules::{Frame, Pen};
@@ -23,7 +24,7 @@ pub(crate) fn part_end(store: &[u32], f: Frame) -> usize
 // What the end of a row takes back.
 fn take_back(pen: &mut Pen, store: &[u32], f: Frame)
     requires { (f.row * PLACES + WIDTH < length store.now) × Backs (cell store.now f.row KIND) f pen.old }
-    ensures { pen.new ≡ closes (cell store.now f.row KIND) f pen.old }
+    ensures { pen.new ≡ closes (cell store.now f.row KIND) f.wrap f.deeper pen.old }
 {
     match row_kind(store, f.row as usize) {
         Some(Kind::Indent) => pen.indent_less(f.wrap),

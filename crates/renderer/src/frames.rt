@@ -13,6 +13,7 @@ const AROUND: Frame = Frame {
     wrap: true,
     first: false,
     deeper: false,
+    made: false,
 };
 
 // What stands where no row is open: all 0, so that the list is made by clearing memory.
@@ -21,6 +22,7 @@ const NONE: Frame = Frame {
     wrap: false,
     first: false,
     deeper: false,
+    made: false,
 };
 
 // The open rows, the outermost first, and how many they are.
@@ -45,7 +47,7 @@ impl Frames {
     // The innermost open row.
     pub(crate) fn innermost(&self) -> Frame
         requires { self.now.depth ≤ MAX_DEPTH }
-        ensures { result ≡ cond (ltb 0 self.now.depth) (frame_at self.now.items (self.now.depth - 1)) (frame_of 0 true false false) }
+        ensures { result ≡ cond (ltb 0 self.now.depth) (frame_at self.now.items (self.now.depth - 1)) (frame_of 0 true false) }
     {
         if 0 < self.depth {
             self.items[self.depth - 1]

@@ -74,6 +74,7 @@ impl Renderer<'_> {
             wrap: wraps,
             first: false,
             deeper: false,
+            made: false,
         };
         self.open(f, row + 1);
     }
@@ -85,7 +86,7 @@ impl Renderer<'_> {
         requires indent { self.old.writing.pen.indent + self.old.writing.pen.next_indent ≤ MAX_MARGIN }
         requires kind { (GROUP < number_of kind) × (number_of kind < WRAP_PARENT) }
         ensures run { run_of self.new
-            ≡ opened_run (run_of self.old) (frame_of self.old.next wrap false false) (self.old.next + 1)
+            ≡ opened_run (run_of self.old) (frame_of self.old.next wrap false) (self.old.next + 1)
             (set_pen (cond (eqb (number_of kind) INDENT) (indent_more wrap self.old.writing.pen) (next_indent_more wrap self.old.writing.pen))
             self.old.writing) }
         ensures unmarked { Unmarked self.old self.new }
@@ -96,6 +97,7 @@ impl Renderer<'_> {
             wrap,
             first: false,
             deeper: false,
+            made: false,
         };
         self.open(f, row + 1);
         if matches!(kind, Kind::Indent) {
@@ -117,8 +119,8 @@ impl Renderer<'_> {
         requires { Enters store.now (run_of self.old) }
         ensures run { run_of self.new
             ≡ cond (wrapped self.old.marks.now (cell store.now self.old.next NUMBER))
-            (opened_run (run_of self.old) (frame_of self.old.next wrap true false) (self.old.next + 1) self.old.writing)
-            (opened_run (run_of self.old) (frame_of self.old.next wrap false false) (cell store.now self.old.next SECOND) self.old.writing) }
+            (opened_run (run_of self.old) (frame_of self.old.next wrap true) (self.old.next + 1) self.old.writing)
+            (opened_run (run_of self.old) (frame_of self.old.next wrap false) (cell store.now self.old.next SECOND) self.old.writing) }
         ensures unmarked { Unmarked self.old self.new }
     {
         let row = self.next;
@@ -128,6 +130,7 @@ impl Renderer<'_> {
             wrap,
             first,
             deeper: false,
+            made: false,
         };
         if first {
             self.open(f, row + 1);
@@ -157,6 +160,7 @@ impl Renderer<'_> {
             wrap: wraps,
             first: true,
             deeper: wraps,
+            made: !trailing,
         };
         self.open(f, row + 1);
         self.writing.pen.next_indent_more(wraps);

@@ -36,7 +36,7 @@ module _ (v : View) (pg : Page) (stop : ℕ) where
   stopped zero n m e = refl
   stopped (suc f) n m e = rw e
 
-  allot_enough : (f g n : ℕ) (m : Machine) → Fine v pg stop m → left stop m ≤ f → left stop m ≤ g → allot f n m ≡ allot g n m
+  pub allot_enough : (f g n : ℕ) (m : Machine) → Fine v pg stop m → left stop m ≤ f → left stop m ≤ g → allot f n m ≡ allot g n m
   unfolding allot
   allot_enough zero g n m a p q = sym (stopped g n m (spent_done m a p))
   allot_enough (suc f) zero n m a p q = stopped (suc f) n m (spent_done m a q)
@@ -49,7 +49,7 @@ module _ (v : View) (pg : Page) (stop : ℕ) where
   sooner false n k s h e = refl
 
   -- one turn more, where the stop is not yet
-  allot_turn : (f n : ℕ) (m : Machine) → Fine v pg stop m → left stop m ≤ f → is_done v pg stop m ≡ false
+  pub allot_turn : (f n : ℕ) (m : Machine) → Fine v pg stop m → left stop m ≤ f → is_done v pg stop m ≡ false
       → (wants_row m && leb n m.entered) ≡ false → allot f n (turn v pg m) ≡ allot f n m
   unfolding allot
   allot_turn zero n m a l e c = absurd (let z : is_done v pg stop m ≡ true = spent_done m a l in let y : ◌≡◌ {A = ℕ} 0 1 = cc in omega arith)

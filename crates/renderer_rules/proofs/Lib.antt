@@ -3,8 +3,11 @@ pub mod ByRule
 pub mod Call
 pub mod Checked
 pub mod Choices
+pub mod Closable
 pub mod Columns
 pub mod CommentLine
+pub mod Drift
+pub mod Held
 pub mod Holds
 pub mod Joined
 pub mod Machine
@@ -14,6 +17,12 @@ pub mod Most
 pub mod Names
 pub mod Opened
 pub mod OwnMarks
-pub mod Safe
-pub mod Widest
+pub mod Ranges
+pub mod Resumed
 pub mod RowText
+pub mod Safe
+pub mod Stopped
+pub mod Stops
+pub mod Widest
+pub mod Told
+pub mod Handed

@@ -22,10 +22,11 @@ use Rattle.rows.proofs.Nested.{nests_le, nests_two, nests_pair, nests_kind, nest
 use Rattle.renderer_rules.specs.declared.Frame.{Frame}
 use Rattle.renderer_rules.specs.Renderer.{Page, Renderer, render_node, render_nodes, group_wraps, insert}
 use Rattle.renderer_rules.specs.Frames.{frame_at, part_end, part_limit, wrap_at, Under, At}
-use Rattle.renderer_rules.specs.Machine.{Machine, started, opened, reopened, closed_to, frame_of, closing, enter_group}
+use Rattle.renderer_rules.specs.Machine.{Machine, started, opened, reopened, closed_to, frame_of, call_frame, closing, enter_group}
 use Rattle.renderer_rules.specs.Machine.{enter_indent, enter_next, enter_leaf, enter_if, enter_call, enter, leave, turn_at, turn}
 use Rattle.renderer_rules.specs.Safe.{one_if}
-use Rattle.renderer_rules.proofs.Meaning.{rest, meaning, pop, frame_other, frame_same, open_group}
+use Rattle.renderer_rules.specs.Stops.{rest, meaning}
+use Rattle.renderer_rules.proofs.Meaning.{pop, frame_other, frame_same, open_group}
 use Rattle.renderer_rules.proofs.Meaning.{open_indent, open_next, open_if_first, open_if_second, open_call, call_on}
 use Rattle.renderer_rules.proofs.Opened.{at_leaf, at_block, at_pop_suc, at_top_suc, advance_leaf, at_first_lem, at_second, at_call, at_on}
 
@@ -85,8 +86,8 @@ module _ (v : View) (pg : Page) (stop : ℕ) where
     if_same k = go (wrapped m.state.marks (v.number m.next)) refl
       where
         go : (b : Bool) → wrapped m.state.marks (v.number m.next) ≡ b
-            → means (cond b (opened m (frame_of m.next (wrap_at m.frames m.depth) true false) (suc m.next) m.state)
-            (opened m (frame_of m.next (wrap_at m.frames m.depth) false false) (v.second m.next) m.state))
+            → means (cond b (opened m (frame_of m.next (wrap_at m.frames m.depth) true) (suc m.next) m.state)
+            (opened m (frame_of m.next (wrap_at m.frames m.depth) false) (v.second m.next) m.state))
             ≡ means m
         go true e = open_if_first v pg stop m.frames m.depth m.next m.state roomy (nests_after a.good h) k (nests_two a.good h k).0 e
         go false e = open_if_second v pg stop m.frames m.depth m.next m.state roomy (nests_after a.good h) k (nests_two a.good h k).0 e
@@ -171,18 +172,18 @@ module _ (v : View) (pg : Page) (stop : ℕ) where
         w = wrap_at m.frames m.depth
 
         go : (b : Bool)
-            → Fine (cond b (opened m (frame_of m.next w true false) (suc m.next) m.state)
-            (opened m (frame_of m.next w false false) (v.second m.next) m.state))
-            × (left stop (cond b (opened m (frame_of m.next w true false) (suc m.next) m.state)
-            (opened m (frame_of m.next w false false) (v.second m.next) m.state))
+            → Fine (cond b (opened m (frame_of m.next w true) (suc m.next) m.state)
+            (opened m (frame_of m.next w false) (v.second m.next) m.state))
+            × (left stop (cond b (opened m (frame_of m.next w true) (suc m.next) m.state)
+            (opened m (frame_of m.next w false) (v.second m.next) m.state))
             < left stop m)
         go true = (
-          at_first_lem v pg stop m.frames m.depth m.next (frame_of m.next w true false) a h k refl refl,
-          less_open (frame_of m.next w true false) (suc m.next) (omega arith),
+          at_first_lem v pg stop m.frames m.depth m.next (frame_of m.next w true) a h k refl refl,
+          less_open (frame_of m.next w true) (suc m.next) (omega arith),
         )
         go false = (
-          at_second v pg stop m.frames m.depth m.next (frame_of m.next w false false) a h k refl refl,
-          less_open (frame_of m.next w false false) (v.second m.next) (let u = (nests_two a.good h k).0.up in omega arith),
+          at_second v pg stop m.frames m.depth m.next (frame_of m.next w false) a h k refl refl,
+          less_open (frame_of m.next w false) (v.second m.next) (let u = (nests_two a.good h k).0.up in omega arith),
         )
 
     call_fine : v.kind m.next ≡ CALL → Fine (enter_call v pg m) × (left stop (enter_call v pg m) < left stop m)
@@ -219,7 +220,7 @@ module _ (v : View) (pg : Page) (stop : ℕ) where
 
         on : Machine
         on =
-            reopened m k (frame_of (frame_at m.frames k).row c false (frame_at m.frames k).deeper)
+            reopened m k (call_frame (frame_at m.frames k).row c false (frame_at m.frames k).deeper (frame_at m.frames k).made)
             (insert c (v.number2 (frame_at m.frames k).row) m.state)
 
         off : Machine
@@ -242,7 +243,7 @@ module _ (v : View) (pg : Page) (stop : ℕ) where
 
         on : Machine
         on =
-            reopened m k (frame_of (frame_at m.frames k).row c false (frame_at m.frames k).deeper)
+            reopened m k (call_frame (frame_at m.frames k).row c false (frame_at m.frames k).deeper (frame_at m.frames k).made)
             (insert c (v.number2 (frame_at m.frames k).row) m.state)
 
         off : Machine
@@ -253,9 +254,13 @@ module _ (v : View) (pg : Page) (stop : ℕ) where
         go true q =
             let x = both (eqb (v.kind (frame_at m.frames k).row) CALL) (frame_at m.frames k).first q in
             let y : one_if (frame_at m.frames k).first ≡ 1 = ap one_if x.1 in
-            let w = weight_top v pg stop m.frames k (frame_of (frame_at m.frames k).row c false (frame_at m.frames k).deeper) roomy_top in
-            let u = weight_suc m.frames k in
-            (at_on v pg stop m.frames k m.next (frame_of (frame_at m.frames k).row c false (frame_at m.frames k).deeper) a e refl refl, omega arith)
+            let w = weight_top v pg stop m.frames k (call_frame (frame_at m.frames k).row c false (frame_at m.frames k).deeper (frame_at m.frames k).made)
+            roomy_top in
+            let u = weight_suc m.frames k in (
+              at_on v pg stop m.frames k m.next (call_frame (frame_at m.frames k).row c false (frame_at m.frames k).deeper (frame_at m.frames k).made) a e
+                  refl refl,
+              omega arith,
+            )
         go false q =
             let u = weight_suc m.frames k in
             let g = nests_le (at_top_suc v pg stop m.frames k m.next a).later in
@@ -269,11 +274,11 @@ module _ (v : View) (pg : Page) (stop : ℕ) where
     pub less : left stop n < left stop m
     pub same : means n ≡ means m
 
-  limit_suc : (fs : List Frame) (k : ℕ) → part_limit v stop fs (suc k) ≡ part_end v (frame_at fs k)
+  pub limit_suc : (fs : List Frame) (k : ℕ) → part_limit v stop fs (suc k) ≡ part_end v (frame_at fs k)
   unfolding part_limit
   limit_suc fs k = refl
 
-  limit_none : (fs : List Frame) → part_limit v stop fs zero ≡ stop
+  pub limit_none : (fs : List Frame) → part_limit v stop fs zero ≡ stop
   unfolding part_limit
   limit_none fs = refl
 

@@ -15,7 +15,8 @@ use Rattle.renderer_rules.specs.declared.Frame.{Frame}
 use Rattle.renderer_rules.specs.Renderer.{Page, Renderer, render_node}
 use Rattle.renderer_rules.specs.Frames.{frame_at, part_end, part_limit, wrap_at, Open, Under, At}
 use Rattle.renderer_rules.specs.Safe.{one_if}
-use Rattle.renderer_rules.proofs.Meaning.{meaning, advance, limit_set, limit_same, frame_same}
+use Rattle.renderer_rules.specs.Stops.{meaning}
+use Rattle.renderer_rules.proofs.Meaning.{advance, limit_set, limit_same, frame_same}
 use Rattle.renderer_rules.proofs.Meaning.{frame_other}
 
 bit_le : (b : Bool) → one_if b ≤ 1

@@ -22,8 +22,9 @@ use Rattle.renderer_rules.specs.Renderer.{new_line, margin, comment, text, inser
 use Rattle.renderer_rules.specs.Renderer.{next_indent_less, group_wraps, trailing_call, callee_wraps, render_node}
 use Rattle.renderer_rules.proofs.Margin.{render_kept}
 use Rattle.renderer_rules.specs.Frames.{frame_at, part_end, part_limit, wrap_at, At}
-use Rattle.renderer_rules.specs.Machine.{Machine, opened, reopened, closed_to, frame_of, closing, first_part, second_part, enter_group}
+use Rattle.renderer_rules.specs.Machine.{Machine, opened, reopened, closed_to, frame_of, call_frame, closing, first_part, second_part, enter_group}
 use Rattle.renderer_rules.specs.Machine.{enter_indent, enter_next, enter_leaf, enter_if, enter_call, enter, leave, turn_at, turn}
+use Rattle.renderer_rules.specs.Limits.{START_MARGIN}
 use Rattle.renderer_rules.specs.Safe.{one_if, steps_back, ins_of, steps, ins, SmallTexts, Safe}
 use Rattle.renderer_rules.proofs.Meaning.{frame_other, frame_same}
 use Rattle.renderer_rules.proofs.Opened.{at_top_suc}
@@ -43,7 +44,7 @@ or_ge true b = omega arith
 or_ge false true = omega arith
 or_ge false false = omega arith
 
-in_le : (v : View) (f : Frame) → ins_of v f ≤ steps_back v f
+pub in_le : (v : View) (f : Frame) → ins_of v f ≤ steps_back v f
 unfolding ins_of steps_back
 in_le v f = or_ge (eqb (v.kind f.row) INDENT && f.wrap) ((eqb (v.kind f.row) INDENT_NEXT && f.wrap) || (eqb (v.kind f.row) CALL && f.deeper))
 
@@ -52,7 +53,7 @@ unfolding steps
 steps_le v fs zero = omega arith
 steps_le v fs (suc d) = let a = steps_le v fs d in let b = step_le v (frame_at fs d) in omega arith
 
-ins_le : (v : View) (fs : List Frame) (d : ℕ) → ins v fs d ≤ steps v fs d
+pub ins_le : (v : View) (fs : List Frame) (d : ℕ) → ins v fs d ≤ steps v fs d
 unfolding ins steps
 ins_le v fs zero = omega arith
 ins_le v fs (suc d) = let a = ins_le v fs d in let b = in_le v (frame_at fs d) in omega arith
@@ -90,7 +91,7 @@ pub closing_call : (v : View) (pg : Page) (f : Frame) (s : Renderer) → v.kind 
 unfolding closing
 closing_call v pg f s k e = rw (k, e)
 
-plain_step : (v : View) (f : Frame) → (v.kind f.row ≡ INDENT → ⊥) → (v.kind f.row ≡ INDENT_NEXT → ⊥)
+pub plain_step : (v : View) (f : Frame) → (v.kind f.row ≡ INDENT → ⊥) → (v.kind f.row ≡ INDENT_NEXT → ⊥)
     → (v.kind f.row ≡ CALL → ⊥) → steps_back v f ≡ 0
 unfolding steps_back
 plain_step v f a b c = rw (ne_eqb (v.kind f.row) INDENT a, ne_eqb (v.kind f.row) INDENT_NEXT b, ne_eqb (v.kind f.row) CALL c)
@@ -264,26 +265,26 @@ module _ (v : View) (pg : Page) (stop : ℕ) where
     group_safe k =
         opened_safe base m _ _ _ 0 0 s roomy (rw k) (rw k) (omega arith) (omega arith) (omega arith) refl refl
 
-    indent_step : (b : Bool) → v.kind m.next ≡ INDENT → steps_back v (frame_of m.next b false false) ≡ one_if b
+    indent_step : (b : Bool) → v.kind m.next ≡ INDENT → steps_back v (frame_of m.next b false) ≡ one_if b
     unfolding steps_back
     indent_step true k = rw k
     indent_step false k = rw k
 
-    next_step : (b : Bool) → v.kind m.next ≡ INDENT_NEXT → steps_back v (frame_of m.next b false false) ≡ one_if b
+    next_step : (b : Bool) → v.kind m.next ≡ INDENT_NEXT → steps_back v (frame_of m.next b false) ≡ one_if b
     unfolding steps_back
     next_step true k = rw k
     next_step false k = rw k
 
-    call_step : (w b : Bool) → v.kind m.next ≡ CALL → steps_back v (frame_of m.next w true b) ≡ one_if b
+    call_step : (w b x : Bool) → v.kind m.next ≡ CALL → steps_back v (call_frame m.next w true b x) ≡ one_if b
     unfolding steps_back
-    call_step w true k = rw k
-    call_step w false k = rw k
+    call_step w true x k = rw k
+    call_step w false x k = rw k
 
-    if_step : (w b : Bool) → v.kind m.next ≡ IF_WRAP → steps_back v (frame_of m.next w b false) ≡ 0
+    if_step : (w b : Bool) → v.kind m.next ≡ IF_WRAP → steps_back v (frame_of m.next w b) ≡ 0
     unfolding steps_back
     if_step w b k = rw k
 
-    in_indent : (b : Bool) → v.kind m.next ≡ INDENT → ins_of v (frame_of m.next b false false) ≡ one_if b
+    in_indent : (b : Bool) → v.kind m.next ≡ INDENT → ins_of v (frame_of m.next b false) ≡ one_if b
     unfolding ins_of
     in_indent b k = rw k
 
@@ -310,7 +311,7 @@ module _ (v : View) (pg : Page) (stop : ℕ) where
     unfolding enter_indent indent_more
     indent_safe k =
         let w = wrap_at m.frames m.depth in
-        opened_safe base m (frame_of m.next w false false) (suc m.next) (on_pen (indent_more w) m.state) (one_if w) (one_if w) s roomy
+        opened_safe base m (frame_of m.next w false) (suc m.next) (on_pen (indent_more w) m.state) (one_if w) (one_if w) s roomy
         (indent_step w k)
         (in_indent w k)
         (omega arith)
@@ -323,9 +324,9 @@ module _ (v : View) (pg : Page) (stop : ℕ) where
     unfolding enter_next next_indent_more
     next_safe k =
         let w = wrap_at m.frames m.depth in
-        opened_safe base m (frame_of m.next w false false) (suc m.next) (on_pen (next_indent_more w) m.state) (one_if w) 0 s roomy
+        opened_safe base m (frame_of m.next w false) (suc m.next) (on_pen (next_indent_more w) m.state) (one_if w) 0 s roomy
         (next_step w k)
-        (no_ins (frame_of m.next w false false) refl (λ e. omega arith))
+        (no_ins (frame_of m.next w false) refl (λ e. omega arith))
         (omega arith)
         (next_sum w m.state.pen)
         (omega arith)
@@ -341,11 +342,11 @@ module _ (v : View) (pg : Page) (stop : ℕ) where
 
         go : (b : Bool)
             → Safe v base
-            (cond b (opened m (frame_of m.next w true false) (suc m.next) m.state)
-            (opened m (frame_of m.next w false false) (v.second m.next) m.state))
+            (cond b (opened m (frame_of m.next w true) (suc m.next) m.state)
+            (opened m (frame_of m.next w false) (v.second m.next) m.state))
         go true =
-            opened_safe base m (frame_of m.next w true false) (suc m.next) m.state 0 0 s roomy (if_step w true k)
-            (no_ins (frame_of m.next w true false) refl (λ e. omega arith))
+            opened_safe base m (frame_of m.next w true) (suc m.next) m.state 0 0 s roomy (if_step w true k)
+            (no_ins (frame_of m.next w true) refl (λ e. omega arith))
             (omega arith)
             (omega arith)
             (omega arith)
@@ -353,8 +354,8 @@ module _ (v : View) (pg : Page) (stop : ℕ) where
             refl
         go false =
             let u = (nests_two a.good h k).0.up in
-            opened_safe base m (frame_of m.next w false false) (v.second m.next) m.state 0 0 s roomy (if_step w false k)
-            (no_ins (frame_of m.next w false false) refl (λ e. omega arith))
+            opened_safe base m (frame_of m.next w false) (v.second m.next) m.state 0 0 s roomy (if_step w false k)
+            (no_ins (frame_of m.next w false) refl (λ e. omega arith))
             (omega arith)
             (omega arith)
             (omega arith)
@@ -366,17 +367,17 @@ module _ (v : View) (pg : Page) (stop : ℕ) where
     call_safe k =
         let t = trailing_call pg (first_part v m.next) (second_part v m.next) m.state in
         let b = callee_wraps pg t (first_part v m.next) (second_part v m.next) m.state in
-        opened_safe base m (frame_of m.next b true (not t && b)) (suc m.next)
+        opened_safe base m (call_frame m.next b true (not t && b) (not t)) (suc m.next)
         (on_pen (next_indent_more (not t && b)) (insert b (v.number m.next) m.state)) (one_if (not t && b)) 0 s roomy
-        (call_step b (not t && b) k)
-        (no_ins (frame_of m.next b true (not t && b)) refl (λ e. omega arith))
+        (call_step b (not t && b) (not t) k)
+        (no_ins (call_frame m.next b true (not t && b) (not t)) refl (λ e. omega arith))
         (omega arith)
         (next_sum (not t && b) m.state.pen)
         (omega arith)
         refl
         refl
 
-    leaf_safe : SmallTexts v pg → base ≤ 128 → WRAP_PARENT ≤ v.kind m.next → v.kind m.next ≤ LINE_OR_SPACE → Safe v base (enter_leaf v pg m)
+    leaf_safe : SmallTexts v pg → base ≤ START_MARGIN → WRAP_PARENT ≤ v.kind m.next → v.kind m.next ≤ LINE_OR_SPACE → Safe v base (enter_leaf v pg m)
     unfolding enter_leaf
     leaf_safe z y k l =
         let w = wrap_at m.frames m.depth in
@@ -394,7 +395,7 @@ module _ (v : View) (pg : Page) (stop : ℕ) where
         let g2 = g.bytes in
         record { sum = omega arith; low = omega arith; column = omega arith; bytes = omega arith }
 
-    enter_safe : SmallTexts v pg → base ≤ 128 → (k : ℕ) → v.kind m.next ≡ k → Safe v base (enter v pg m)
+    enter_safe : SmallTexts v pg → base ≤ START_MARGIN → (k : ℕ) → v.kind m.next ≡ k → Safe v base (enter v pg m)
     unfolding enter
     enter_safe z y zero e = rw e (group_safe e)
     enter_safe z y (suc zero) e = rw e (indent_safe e)
@@ -547,13 +548,13 @@ module _ (v : View) (pg : Page) (stop : ℕ) where
       -- the arguments of a `Call` are opened: the same steps
       on_safe : (c : Bool) → v.kind (frame_at m.frames k).row ≡ CALL
           → Safe v base
-          (reopened m k (frame_of (frame_at m.frames k).row c false (frame_at m.frames k).deeper)
+          (reopened m k (call_frame (frame_at m.frames k).row c false (frame_at m.frames k).deeper (frame_at m.frames k).made)
           (insert c (v.number2 (frame_at m.frames k).row) m.state))
       unfolding insert
       on_safe c q =
           let deep = a.deep in
           let h : k < length m.frames = rw a.size (omega arith) in
-          let new = frame_of (frame_at m.frames k).row c false (frame_at m.frames k).deeper in
+          let new = call_frame (frame_at m.frames k).row c false (frame_at m.frames k).deeper (frame_at m.frames k).made in
           let u = steps_top m.frames k new h in
           let w = ins_top m.frames k new h in
           let x = call_steps v new (frame_at m.frames k).deeper q refl in
@@ -577,7 +578,7 @@ module _ (v : View) (pg : Page) (stop : ℕ) where
 
           on : Machine
           on =
-              reopened m k (frame_of (frame_at m.frames k).row c false (frame_at m.frames k).deeper)
+              reopened m k (call_frame (frame_at m.frames k).row c false (frame_at m.frames k).deeper (frame_at m.frames k).made)
               (insert c (v.number2 (frame_at m.frames k).row) m.state)
 
           off : Machine
@@ -588,7 +589,7 @@ module _ (v : View) (pg : Page) (stop : ℕ) where
           go false q = off_safe _ _ _ refl refl refl q
 
   turn_safe_at : (base d : ℕ) (m : Machine) → m.depth ≡ d → Fine v pg stop m → is_done v pg stop m ≡ false → SmallTexts v pg
-      → base ≤ 128 → Safe v base m
+      → base ≤ START_MARGIN → Safe v base m
       → Safe v base (turn_at v pg d m)
   unfolding turn_at
   turn_safe_at base zero m e a n z y s = enter_safe base m a (not_done v pg stop m a n (omega arith)) s z y (v.kind m.next) refl
@@ -606,7 +607,7 @@ module _ (v : View) (pg : Page) (stop : ℕ) where
       go false q = enter_safe base m a (in_part v pg stop m k e a (eqb-false m.next _ q)) s z y (v.kind m.next) refl
 
   -- a turn keeps the numbers in range
-  pub turn_safe : (base : ℕ) (m : Machine) → Fine v pg stop m → is_done v pg stop m ≡ false → SmallTexts v pg → base ≤ 128 → Safe v base m
+  pub turn_safe : (base : ℕ) (m : Machine) → Fine v pg stop m → is_done v pg stop m ≡ false → SmallTexts v pg → base ≤ START_MARGIN → Safe v base m
       → Safe v base (turn v pg m)
   unfolding turn
   turn_safe base m a n z y s = turn_safe_at base m.depth m refl a n z y s

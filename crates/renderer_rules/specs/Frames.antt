@@ -8,7 +8,7 @@ use Rattle.renderer_rules.specs.declared.Frame.{Frame}
 
 -- what is read where no row is open
 abbrev pub no_frame : Frame
-no_frame = record { row = 0; wrap = false; first = false; deeper = false }
+no_frame = record { row = 0; wrap = false; first = false; deeper = false; made = false }
 
 -- the open row of frame d
 abbrev pub frame_at : List Frame → ℕ → Frame

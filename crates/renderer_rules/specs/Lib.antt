@@ -1,12 +1,15 @@
 pub mod Call
 pub mod Check
 pub mod CommentLine
+pub mod Drift
 pub mod Frames
 pub mod Holds
 pub mod Limits
+pub mod Listed
 pub mod Machine
 pub mod Most
 pub mod Page
 pub mod Renderer
 pub mod Safe
+pub mod Stops
 pub mod Widest

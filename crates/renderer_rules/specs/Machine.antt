@@ -1,10 +1,11 @@
 -- No rule rests on this file: it is how the code renders. The machine is `render_node` without recursion: one turn closes the innermost open
 -- row or enters the next row. proofs/Machine.antt proves that it does what the rules say.
 use Rattle.std.specs.Prelude.{ℕ, zero, suc, Bool, true, false, cond, not, ◌&&◌, List, set, eqb}
-use Rattle.rows.specs.Kinds.{CALL, case_of}
+use Rattle.rows.specs.Kinds.{INDENT, INDENT_NEXT, CALL, case_of}
 use Rattle.rows.specs.Node.{Node, Nodes, group, wrapped}
 use Rattle.rows.specs.View.{View, nodes_at, node_at}
 use Rattle.renderer_rules.specs.declared.Frame.{Frame}
+use Rattle.renderer_rules.specs.declared.Pen.{Pen}
 use Rattle.renderer_rules.specs.Renderer.{Page, Renderer, on_pen, render_node, group_wraps, insert, indent_more, indent_less}
 use Rattle.renderer_rules.specs.Renderer.{next_indent_more, next_indent_less, trailing_call, callee_wraps}
 use Rattle.renderer_rules.specs.Frames.{frame_at, part_end, wrap_at}
@@ -35,9 +36,19 @@ reopened m k f t = record { frames = set m.frames k f; depth = suc k; next = m.n
 abbrev pub closed_to : Machine → ℕ → ℕ → Renderer → Machine
 closed_to m k n t = record { frames = m.frames; depth = k; next = n; state = t; entered = m.entered }
 
--- an open row by its four fields
-abbrev pub frame_of : ℕ → Bool → Bool → Bool → Frame
-frame_of row wrap first deeper = record { row = row; wrap = wrap; first = first; deeper = deeper }
+-- an open row by its fields: a `Call`, and any other
+abbrev pub call_frame : ℕ → Bool → Bool → Bool → Bool → Frame
+call_frame row wrap first deeper made = record { row = row; wrap = wrap; first = first; deeper = deeper; made = made }
+
+abbrev pub frame_of : ℕ → Bool → Bool → Frame
+frame_of row wrap first = call_frame row wrap first false false
+
+-- what the end of a row does to the pen, by its kind, whether its parts wrap, and whether a `Call` set them one step deeper
+abbrev pub closes : ℕ → Bool → Bool → Pen → Pen
+closes kind wraps deeper p =
+    cond (eqb kind INDENT)
+    (indent_less wraps p)
+    (cond (eqb kind INDENT_NEXT) (next_indent_less wraps p) (cond (eqb kind CALL) (next_indent_less deeper p) p))
 
 -- what follows of f's row once the open part is rendered: what its end takes back and, of a `Call` in its callee, the arguments before
 unfoldable pub closing : View → Page → Frame → Renderer → Renderer
@@ -73,13 +84,13 @@ module _ (v : View) (pg : Page) where
   unfoldable pub enter_group : Machine → Machine
   enter_group m =
       let b = group_wraps pg (nodes_at v (suc m.next) (v.after m.next)) m.state in
-      opened m (frame_of m.next b false false) (suc m.next) (insert b (v.number m.next) m.state)
+      opened m (frame_of m.next b false) (suc m.next) (insert b (v.number m.next) m.state)
 
   unfoldable pub enter_indent : Machine → Machine
-  enter_indent m = let w = wrap_at m.frames m.depth in opened m (frame_of m.next w false false) (suc m.next) (on_pen (indent_more w) m.state)
+  enter_indent m = let w = wrap_at m.frames m.depth in opened m (frame_of m.next w false) (suc m.next) (on_pen (indent_more w) m.state)
 
   unfoldable pub enter_next : Machine → Machine
-  enter_next m = let w = wrap_at m.frames m.depth in opened m (frame_of m.next w false false) (suc m.next) (on_pen (next_indent_more w) m.state)
+  enter_next m = let w = wrap_at m.frames m.depth in opened m (frame_of m.next w false) (suc m.next) (on_pen (next_indent_more w) m.state)
 
   unfoldable pub enter_leaf : Machine → Machine
   enter_leaf m = passed m (render_node pg (node_at v m.next) (wrap_at m.frames m.depth) m.state)
@@ -88,14 +99,14 @@ module _ (v : View) (pg : Page) where
   enter_if m =
       let w = wrap_at m.frames m.depth in
       cond (wrapped m.state.marks (v.number m.next))
-      (opened m (frame_of m.next w true false) (suc m.next) m.state)
-      (opened m (frame_of m.next w false false) (v.second m.next) m.state)
+      (opened m (frame_of m.next w true) (suc m.next) m.state)
+      (opened m (frame_of m.next w false) (v.second m.next) m.state)
 
   unfoldable pub enter_call : Machine → Machine
   enter_call m =
       let t = trailing_call pg (first_part v m.next) (second_part v m.next) m.state in
       let b = callee_wraps pg t (first_part v m.next) (second_part v m.next) m.state in
-      opened m (frame_of m.next b true (not t && b)) (suc m.next) (on_pen (next_indent_more (not t && b)) (insert b (v.number m.next) m.state))
+      opened m (call_frame m.next b true (not t && b) (not t)) (suc m.next) (on_pen (next_indent_more (not t && b)) (insert b (v.number m.next) m.state))
 
   unfoldable pub enter : Machine → Machine
   enter m =
@@ -123,7 +134,7 @@ module _ (v : View) (pg : Page) where
       let f = frame_at m.frames k in
       let c = group_wraps pg (nodes_at v m.next (v.after f.row)) m.state in
       cond (eqb (v.kind f.row) CALL && f.first)
-      (reopened m k (frame_of f.row c false f.deeper) (insert c (v.number2 f.row) m.state))
+      (reopened m k (call_frame f.row c false f.deeper f.made) (insert c (v.number2 f.row) m.state))
       (closed_to m k (v.after f.row) (closing v pg f m.state))
 
   -- one turn, with k + 1 rows open and with none

@@ -78,11 +78,13 @@ impl Pen {
 }
 
 // An open row: whether its parts wrap; whether the first of its two parts is open (the callee of a `Call`, with the arguments ahead; the chosen
-// part of an `IfWrap`, with the second to be passed over); whether a `Call` set its parts one step deeper, which its end takes back.
+// part of an `IfWrap`, with the second to be passed over); whether a `Call` set its parts one step deeper, which its end takes back; and whether
+// it is in the second branch of `render_node`, where a group is made up.
 #[derive(Clone, Copy, Debug, PartialEq, Eq)]
 pub struct Frame {
     pub row: u32,
     pub wrap: bool,
     pub first: bool,
     pub deeper: bool,
+    pub made: bool,
 }
