@@ -74,7 +74,7 @@ fn needed() -> &'static str {
 }
 
 /// What the archive's functions of this library are of. Their symbols, such as
-/// `rrufthim_check_s2`, stand in it as they are, between other bytes.
+/// `rrufthim_check_s3`, stand in it as they are, between other bytes.
 fn shapes(archive: &[u8]) -> BTreeSet<String> {
     let is_name = |byte: &u8| byte.is_ascii_alphanumeric() || *byte == b'_';
     let words = archive.split(|byte| !is_name(byte));

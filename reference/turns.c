@@ -25,8 +25,8 @@ struct file {
 
 static uint32_t *store;
 static uint8_t *marks, *output;
-static uint64_t out[16];
-static const uint64_t fresh[16];
+static uint64_t out[RRUFTHIM_RENDER_OUT]; /* the largest of all */
+static const uint64_t fresh[RRUFTHIM_RENDER_STATE];
 static uint64_t rules[SIDES] = {RRUFTHIM_WIDTHS_SUPPLIED, RRUFTHIM_WIDTHS_SUPPLIED};
 
 static double now(void) {
@@ -49,7 +49,7 @@ static void lay(int side, const struct file *f) {
 }
 
 static void render(int side, const struct file *f) {
-    uint64_t args[RRUFTHIM_RENDER_ARGS] = {f->rows, RRUFTHIM_REFERENCE_WIDTH, rules[side]};
+    uint64_t args[RRUFTHIM_RENDER_ARGS] = {f->rows, RRUFTHIM_REFERENCE_WIDTH, rules[side], RRUFTHIM_ALL_ROWS};
     (side == AFTER ? OF(after, render) : OF(before, render))(f->source, f->source_len, f->image, f->image_len, store, STORE, marks, MARKS, output, OUTPUT,
                                                              fresh, args, out);
     accepted();

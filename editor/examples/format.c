@@ -59,7 +59,8 @@ static void archived(const uint8_t *source, size_t source_len, const uint8_t *im
     static const uint64_t all[RRUFTHIM_LAYOUT_ARGS] = {0, 1, RRUFTHIM_ALL_COMMENTS, RRUFTHIM_WIDTHS_SUPPLIED};
     uint32_t store[8 * RRUFTHIM_ROW];
     uint8_t marks[8], output[64];
-    uint64_t out[RRUFTHIM_LAYOUT_OUT], rows[RRUFTHIM_RENDER_ARGS] = {0, RRUFTHIM_REFERENCE_WIDTH, RRUFTHIM_WIDTHS_SUPPLIED};
+    uint64_t out[RRUFTHIM_RENDER_OUT]; /* the larger of the two */
+    uint64_t rows[RRUFTHIM_RENDER_ARGS] = {0, RRUFTHIM_REFERENCE_WIDTH, RRUFTHIM_WIDTHS_SUPPLIED, RRUFTHIM_ALL_ROWS};
 
     rrufthim_layout_archived(source, source_len, image, image_len, store, 8 * RRUFTHIM_ROW, laid, all, out);
     if (out[0] != 0) {

@@ -72,6 +72,9 @@ typedef char rrufthim_lengths_have_64_bits[sizeof(size_t) == 8 ? 1 : -1];
                                        2, which has no widths, and the rule not 3: 0 */
 #define RRUFTHIM_WRONG_WIDTH 21     /* a width that the image stores isn't what Unicode 16.0 gives its text (the shebang's without blanks at its
                                        end), or a text of an image of version 2 is over 65,535 columns: text record's offset in the image */
+#define RRUFTHIM_NO_ALLOTMENT 22    /* no row may be entered: 0 */
+#define RRUFTHIM_BAD_LISTED_ROWS 23 /* the listed rows aren't those that enclose the next row, or are over 256, or closing them would take the
+                                       indent under 0: 0 */
 
 /* Limits: past them a file is refused. A text may be longer than a source: such a text can't be formatted again. */
 #define RRUFTHIM_MAX_SOURCE 65536    /* bytes of a source */
@@ -92,21 +95,23 @@ typedef char rrufthim_lengths_have_64_bits[sizeof(size_t) == 8 ? 1 : -1];
 #define RRUFTHIM_MAX_FILES 4096      /* files that tallies count */
 #define RRUFTHIM_MAX_TALLY 4294967296 /* each of the tallies handed in */
 #define RRUFTHIM_MAX_BATCH 256       /* files of a batch */
+#define RRUFTHIM_MAX_LISTED_ROWS 256 /* rows that a rendering state lists */
+#define RRUFTHIM_ALL_ROWS UINT64_MAX /* the largest allotment: as many rows as there are */
 
 /* Sizes. */
 #define RRUFTHIM_ROW 9               /* numbers of the store that a row takes; store_len / 9 rows, rounded down */
 #define RRUFTHIM_MAX_FILE_ROWS 1800  /* the rows, and the marks, of rrufthim_format, rrufthim_count and each file of a batch */
 #define RRUFTHIM_COUNT_OUTPUT 65536  /* bytes of output that rrufthim_count has of its own */
 #define RRUFTHIM_LAYOUT_STATE 9      /* places of a layout state */
-#define RRUFTHIM_RENDER_STATE 7      /* places of a rendering state */
+#define RRUFTHIM_RENDER_STATE 264    /* places of a rendering state */
 #define RRUFTHIM_LAYOUT_ARGS 4       /* places of a layout call's arguments */
-#define RRUFTHIM_RENDER_ARGS 3       /* places of a rendering call's arguments */
+#define RRUFTHIM_RENDER_ARGS 4       /* places of a rendering call's arguments */
 #define RRUFTHIM_FORMAT_CHOICE 3     /* places of a whole file's choice */
 #define RRUFTHIM_TABLE_ROW 3         /* numbers of a batch's table that a file takes */
 #define RRUFTHIM_TALLIES 8           /* places of tallies */
 #define RRUFTHIM_CHECK_OUT 4         /* places of each function's out */
 #define RRUFTHIM_LAYOUT_OUT 11
-#define RRUFTHIM_RENDER_OUT 9
+#define RRUFTHIM_RENDER_OUT 267
 #define RRUFTHIM_FORMAT_OUT 5
 #define RRUFTHIM_NEWLINES_OUT 2
 #define RRUFTHIM_COUNT_OUT 18
@@ -119,6 +124,17 @@ typedef char rrufthim_lengths_have_64_bits[sizeof(size_t) == 8 ? 1 : -1];
 #define RRUFTHIM_READS_BACK_OUT 3
 
 /*
+ * A row that a rendering state lists, as a number: RRUFTHIM_LISTED_ROW(row, way, wraps), with its place in the store, the way that a call of a
+ * function went (of any other row RRUFTHIM_WAY_TRAILING), and 1 if its parts wrap (of a call of a function those of the part that the next
+ * row is in), else 0. What a call answers can be handed on as it is.
+ */
+#define RRUFTHIM_WAY_TRAILING 0      /* its arguments trail on the line of its callee */
+#define RRUFTHIM_WAY_MADE_FLAT 1     /* a group is made up around both, on one line */
+#define RRUFTHIM_WAY_MADE_WRAPPED 2  /* it is made up, over lines */
+#define RRUFTHIM_LISTED_FACTS 6      /* numbers that stand for one row */
+#define RRUFTHIM_LISTED_ROW(row, way, wraps) ((uint64_t)(row) * RRUFTHIM_LISTED_FACTS + 2 * (uint64_t)(way) + (uint64_t)(wraps))
+
+/*
  * Which library this header is for.
  *
  * RRUFTHIM_SHAPE is the number of the functions' shape: how many parameters, of which kinds, arrays of how many places. It is raised with each
@@ -129,9 +145,9 @@ typedef char rrufthim_lengths_have_64_bits[sizeof(size_t) == 8 ? 1 : -1];
  * major and the minor, for #if. The minor is raised where something is added, the major where something changes that was there; as long as
  * the major is 0, the minor is raised for both. Another shape is always another version too.
  */
-#define RRUFTHIM_SHAPE 2
-#define RRUFTHIM_VERSION "0.6"
-#define RRUFTHIM_VERSION_NUMBER 6
+#define RRUFTHIM_SHAPE 3
+#define RRUFTHIM_VERSION "0.7"
+#define RRUFTHIM_VERSION_NUMBER 7
 
 #define RRUFTHIM_JOIN_AS_IT_IS(name, number) name##number
 #define RRUFTHIM_JOIN(name, number) RRUFTHIM_JOIN_AS_IT_IS(name, number)
@@ -200,17 +216,22 @@ void rrufthim_layout_archived(
     uint64_t out[RRUFTHIM_LAYOUT_OUT]);
 
 /*
- * Renders the rows from the state's next one up to a stop, at a width. Refusals 20, 1, 3, 11, 12, 15, 9, 10; by an edition of Unicode also 2,
- * before 3, and 11 for a row's text that isn't UTF-8 or cuts a character.
+ * Renders the rows from the state's next one up to a stop, at a width, and of them at most as many as are allotted: it stops when they are
+ * spent, wherever that is, and the next call goes on from there. Refusals 20, 1, 3, 11, 12, 15, 22, 23, 9, 10; by an edition of Unicode also
+ * 2, before 3, and 11 for a row's text that isn't UTF-8 or cuts a character.
  *
- * state:  [0] indent, [1] next indent, [2] column, [3] marks in use, [4] next row, [5] width and [6] rule of widths, 0 for none yet. Fresh:
- *         all 0. Later: out[2] to out[8] of the last accepted call.
+ * state:  [0] indent, [1] next indent, [2] column, [3] marks in use, [4] next row, [5] width and [6] rule of widths, 0 for none yet, [7] how
+ *         many rows are listed, those that enclose the next one, [8] on: these, outermost first, as numbers (RRUFTHIM_LISTED_ROW). Places
+ *         behind them are not read. Fresh: [0] to [7] are 0. Later: out[3] on of the last accepted call.
  * args:   [0] the row to stop before, [1] the width, 40 to 200 columns, [2] the rule of widths, RRUFTHIM_WIDTHS_..: both the same in all
- *         calls of a run. Literals are measured by it; names are as wide as layout wrote them, so let layout have the same rule.
+ *         calls of a run. Literals are measured by it; names are as wide as layout wrote them, so let layout have the same rule. [3] the rows
+ *         that may be entered, 1 at least: RRUFTHIM_ALL_ROWS to go to the stop. A call tests all rows from the first listed one, or the next,
+ *         to its stop: for short calls let it stop at the end of the next declaration.
  * store:  is used during the call, and holds the same after it.
  * marks:  a byte for each group number, 1 wrapped, 0 not; keep them from call to call. What they hold before the first doesn't matter.
  * output: is written from its start on, in every call: take the bytes before the next one.
- * out:    [0] 0, [1] bytes written, [2] to [8] the new state.
+ * out:    [0] 0, [1] bytes written, [2] rows entered, [3] to [9] the new state's first seven numbers, [10] how many rows it lists, [11] on:
+ *         these. Places behind them are left as they were.
  */
 void rrufthim_render(
     const uint8_t *source, size_t source_len,

@@ -9,7 +9,7 @@ use crate::{
     error::FormatError,
     file::File,
     image::{comments_from, name_start},
-    limits::MAX_OUTPUT,
+    limits::{ALL_ROWS, MAX_OUTPUT},
     options::Options,
 };
 
@@ -146,7 +146,7 @@ impl<'f> InParts<'f> {
             let next = self.layout.next_declaration;
             let stop = next.saturating_add(declarations.max(1));
             self.lay_out(stop.min(self.declarations))?;
-        } else if self.rendering.next_row == self.layout.next_row {
+        } else if self.is_rendered() {
             return Ok(None);
         }
         self.render().map(Some)
@@ -170,6 +170,11 @@ impl<'f> InParts<'f> {
         Ok(())
     }
 
+    /// Whether all that is laid out is rendered.
+    pub fn is_rendered(&self) -> bool {
+        self.rendering.next_row == self.layout.next_row
+    }
+
     /// Renders what was laid out since the last call, and gives its text.
     ///
     /// # Errors
@@ -178,7 +183,21 @@ impl<'f> InParts<'f> {
     /// [`MAX_OUTPUT`] bytes, 9 or 10 if there is no memory for what they ask.
     /// What was rendered stays.
     pub fn render(&mut self) -> Result<&str, FormatError> {
+        self.render_rows(ALL_ROWS)
+    }
+
+    /// Renders at most so many rows now of what was laid out, and gives their
+    /// text. It stops when they are spent, wherever that is, and the next call
+    /// goes on from there. A call tests the rows from the outermost one around
+    /// the next to the last that is laid out: so that it stays short, lay out
+    /// one declaration at a time.
+    ///
+    /// # Errors
+    ///
+    /// As [`render`](Self::render), and refusal 22 for no row.
+    pub fn render_rows(&mut self, rows: usize) -> Result<&str, FormatError> {
         let args = RenderArgs::up_to(self.layout.next_row);
+        let args = args.with_allotment(rows);
         let (file, state) = (self.file, &self.rendering);
         let options = &self.options;
         let written = self.buffers.render(file, state, &args, options);

@@ -72,6 +72,7 @@ mod options;
 mod place;
 mod read_back;
 mod refusal;
+mod rendering;
 mod writer;
 
 pub use ast::Span;
@@ -92,6 +93,7 @@ pub use options::{Comments, Options, Widths};
 pub use place::Place;
 pub use read_back::{Operand, Parent, ReadBackError, reads_back};
 pub use refusal::{Refusal, RefusalRow};
+pub use rendering::Rendering;
 pub use writer::{ImageWriter, NO_SPAN, OpenRecord, WriteResult};
 
 /// The example of README.md, run as a test.

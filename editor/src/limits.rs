@@ -41,3 +41,10 @@ pub const MAX_TALLY: usize = 4_294_967_296;
 /// A tree whose literals all span the whole source gives a text of
 /// gigabytes; no script comes near this bound.
 pub const MAX_OUTPUT: usize = 64 << 20;
+
+/// The most rows that a rendering state lists. Rows are at most 256 deep, so
+/// that no more than 255 enclose one.
+pub const MAX_LISTED_ROWS: usize = 256;
+
+/// The largest allotment: as many rows as there are.
+pub const ALL_ROWS: usize = usize::MAX;

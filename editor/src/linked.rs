@@ -14,7 +14,7 @@ compile_error!("the static library is for 64-bit machines");
 /// here and wherever else it stands.
 macro_rules! shape {
     () => {
-        2
+        3
     };
 }
 
@@ -122,17 +122,19 @@ linked! {
     );
 
     /// `state`: indent, next_indent, column, marks in use, next row, width,
-    /// rule. `args`: the row to stop before, the width, the rule. `out`: 0,
-    /// bytes written, the new state; or number, place.
+    /// rule, how many rows are listed, their numbers. `args`: the row to stop
+    /// before, the width, the rule, the rows that it may enter. `out`: 0, bytes
+    /// written, rows entered, the new state as far as rows are listed; or
+    /// number, place.
     fn render(
         source: &[u8],
         image: &[u8],
         store: &mut [u32],
         marks: &mut [u8],
         output: &mut [u8],
-        state: &[u64; 7],
-        args: &[u64; 3],
-        out: &mut [u64; 9],
+        state: &[u64; 264],
+        args: &[u64; 4],
+        out: &mut [u64; 267],
     );
 
     /// `choice`: the width, the mode, the rule. `out`: 0, bytes written,

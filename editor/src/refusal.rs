@@ -1,4 +1,4 @@
-//! Why a call is turned down: the table of docs/01-scope.md, and 14 to 21 of
+//! Why a call is turned down: the table of docs/01-scope.md, and 14 to 23 of
 //! docs/02-change-requests.md.
 
 use std::{error::Error, fmt};
@@ -160,6 +160,9 @@ refusals! {
         gives its text (the shebang's without blanks at its end), or a text \
         of an image of version 2 is over 65,535 columns",
         at: "text record's offset in the image";
+    22 NoAllotment "no row may be entered";
+    23 BadListedRows "the listed rows aren't those that enclose the next row, \
+        or are over 256, or closing them would take the indent under 0";
 }
 
 impl Refusal {

@@ -10,7 +10,7 @@ use declared::{
 };
 use rrufthim::{
     Options, Refusal, SHAPE, Version,
-    calls::{ROW, TABLE_ROW},
+    calls::{ROW, TABLE_ROW, Way},
     limits::*,
 };
 
@@ -68,7 +68,9 @@ fn a_difference_is_found() {
         ("uint8_t *marks, size_t marks_len,", "uint8_t *marks,"),
         ("void rrufthim_render", "void rrufthim_draw"),
         ("_NEWLINES_OUT 2", "_NEWLINES_OUT 3"),
-        ("_RENDER_ARGS 3", "_RENDER_ARGS 2"),
+        ("_RENDER_ARGS 4", "_RENDER_ARGS 3"),
+        ("_RENDER_STATE 264", "_RENDER_STATE 263"),
+        ("_RENDER_OUT 267", "_RENDER_OUT 266"),
         ("_LAYOUT_ARGS 4", "_LAYOUT_ARGS 3"),
         ("_FORMAT_CHOICE 3", "_FORMAT_CHOICE 2"),
         ("_WRITE_OUT 2", "_WRITE_OUT 3"),
@@ -171,5 +173,15 @@ fn sizes_have_their_names() {
     assert_eq!(value("RRUFTHIM_MAX_FILES"), MAX_FILES);
     assert_eq!(value("RRUFTHIM_MAX_TALLY"), MAX_TALLY);
     assert_eq!(value("RRUFTHIM_MAX_BATCH"), MAX_BATCH);
+    assert_eq!(value("RRUFTHIM_MAX_LISTED_ROWS"), MAX_LISTED_ROWS);
+    // A listed row is row * 6 + way * 2 + wraps (calls::ListedRow).
+    assert_eq!(value("RRUFTHIM_LISTED_FACTS"), 6);
+    for (name, way) in [
+        ("RRUFTHIM_WAY_TRAILING", Way::Trailing),
+        ("RRUFTHIM_WAY_MADE_FLAT", Way::MadeFlat),
+        ("RRUFTHIM_WAY_MADE_WRAPPED", Way::MadeWrapped),
+    ] {
+        assert_eq!(value(name), way as usize);
+    }
     assert_eq!(value("RRUFTHIM_TABLE_ROW"), TABLE_ROW);
 }

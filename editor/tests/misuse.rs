@@ -181,7 +181,7 @@ fn states_over_their_bounds() {
     let image = tariff_image();
     let file = File::new(SOURCE, &image);
     let changes: [fn(&mut RenderState); 6] = [
-        |state| state.indent = 65,
+        |state| state.indent = 385,
         |state| state.next_indent = usize::MAX,
         |state| state.column = (1 << 56) + 1,
         |state| state.marks_in_use = 301,

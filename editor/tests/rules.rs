@@ -349,15 +349,15 @@ fn other_rules_are_refused() {
         let (none, args) = (&mut [], [9, 9, 9, rule]);
         linked::layout(b"\xFF", b"", none, &[9; 9], &args, &mut out);
         assert_eq!(out[..2], DUE);
-        let mut out = [7; 9];
-        let (none, args) = (&mut [], [9, 9, rule]);
+        let mut out = [7; 267];
+        let (none, args) = (&mut [], [9, 9, rule, 9]);
         linked::render(
             b"\xFF",
             b"",
             none,
             &mut [],
             &mut [],
-            &[9; 7],
+            &[9; 264],
             &args,
             &mut out,
         );

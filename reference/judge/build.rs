@@ -1,7 +1,7 @@
 //! Copies fmt.rs with the edits that README.md lists: the greatest value of
 //! `column` is kept, `fmt_parsed` asks for its `max` and for the mode that it
-//! closes in, texts ask for the rule that they are measured by, and a child
-//! module sees the private items that the judge drives. A second copy is as it
+//! closes in, texts ask for the rule that they are measured by, `render_node`
+//! notes what it enters, and a child module sees the private items that the judge drives. A second copy is as it
 //! was, but for a last function that calls `fmt_parsed`.
 
 use std::{env, fs, path::PathBuf};
@@ -12,6 +12,22 @@ const KEPT: &str = "#[cfg(debug_assertions)] \
     { self.greatest = self.greatest.max(self.column); }\n";
 /// How many lines of fmt.rs set `column`.
 const SET: usize = 5;
+
+/// Stands behind the head of `render_node`, whose body becomes that of a
+/// function of its own.
+const NOTED: &str = "
+        #[cfg(debug_assertions)]
+        let note = driver::enter(self, node, wrap);
+        self.render_entered(node, wrap);
+        #[cfg(debug_assertions)]
+        driver::leave(self, note);
+    }
+
+    #[inline(always)]
+    fn render_entered(&mut self, node: &Node, wrap: bool) {
+";
+/// Stands before a `Call` whose arguments trail is rendered.
+const TRAILS: &str = "#[cfg(debug_assertions)] driver::trails(self); ";
 
 /// Stands behind the last line of the copy that isn't edited.
 const UNEDITED: &str = "
@@ -28,7 +44,8 @@ fn main() {
     println!("cargo::rerun-if-changed={}", original.display());
 
     let plain = fs::read_to_string(&original).expect("fmt.rs is there");
-    let mut text = with_rule(&with_foot(&with_max(&with_greatest(&plain))));
+    let text = with_foot(&with_max(&with_greatest(&plain)));
+    let mut text = with_notes(&with_rule(&text));
     text.push_str(&format!("#[path = {driver:?}] pub mod driver;\n"));
     let copies = [("fmt", text), ("unedited", plain + UNEDITED)];
 
@@ -67,6 +84,23 @@ fn with_rule(text: &str) -> String {
         text.replace(line, edited)
     };
     edits.into_iter().fold(text.into(), edit)
+}
+
+/// What stands in `Renderer` is noted as `render_node` enters a node and is
+/// done with it, and at a `Call` whether its arguments trail. The build for
+/// timing leaves this out.
+fn with_notes(text: &str) -> String {
+    let text =
+        once(text, "    column: usize,\n", "    notes: driver::Notes,\n");
+    let none = "        notes: driver::Notes::default(),\n";
+    let text = once(&text, "        column: 0,\n", none);
+    let head = "    fn render_node(&mut self, node: &Node, wrap: bool) {\n";
+    assert_eq!(text.matches(head).count(), 1, "{head}");
+    let text = text.replace(head, &format!("{head}{NOTED}"));
+    let trailing =
+        "self.render_node(&Node::Group(*idx_e, e.clone()), false);";
+    assert_eq!(text.matches(trailing).count(), 1, "{trailing}");
+    text.replace(trailing, &format!("{TRAILS}{trailing}"))
 }
 
 /// `max` is a number that the judge sets, 80 unless it does.

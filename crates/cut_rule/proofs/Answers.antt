@@ -26,18 +26,19 @@ module _ (R : Rules) where
       let is = a.is in
       record { passes = a.passes; state = (cc); left = (cc) }
 
-  -- text written is that due
-  pub record WrittenBy (o : Option Refusal) (n m : ℕ) : Type 0 where
+  -- text written is that due, and as many rows were entered
+  pub record WrittenBy (o : Option Refusal) (n k m j : ℕ) : Type 0 where
     pub passes : o ≡ None
     pub bytes : n ≡ m
+    pub entered : k ≡ j
 
-  pub written_by : (o : Option Refusal) (t : R.RenderState) (n : ℕ) (u : R.RenderState) (m : ℕ)
-      → ◌≡◌ {A = Answer (CallResult R)} (accepted (written t n)) (answer_by o (written u m))
-      → WrittenBy o n m
-  written_by o t n u m e =
-      let a = accepted_by o (written t n) (written u m) e in
+  pub written_by : (o : Option Refusal) (t : R.RenderState) (n k : ℕ) (u : R.RenderState) (m j : ℕ)
+      → ◌≡◌ {A = Answer (CallResult R)} (accepted (written t n k)) (answer_by o (written u m j))
+      → WrittenBy o n k m j
+  written_by o t n k u m j e =
+      let a = accepted_by o (written t n k) (written u m j) e in
       let is = a.is in
-      record { passes = a.passes; bytes = (cc) }
+      record { passes = a.passes; bytes = (cc); entered = (cc) }
 
   -- a caller whose calls are, one by one, calls of the run, makes the run
   pub all_held : {W M : Type 0} (after : W → M → W) (Keeps : W → M → Type 0) (held : W → Carried R) (as_call : M → Call R)

@@ -1,15 +1,15 @@
 -- The comments of rows that stand one after the other are those of the first and then those of the others, since a row is read by its own nine
 -- places alone.
 -- Assumes nothing.
-use mathlib.Core.Path.{◌≡◌, refl, sym, ap, ◌∙◌}
+use mathlib.Core.Path.{◌≡◌, refl, sym, ap, subst, ◌∙◌}
 use mathlib.Core.Bool.{cond}
 use mathlib.Core.List.{List, [], ◌∷◌, ◌++◌, append_assoc, append-nil}
-use Prim.Native.Nat.{ℕ, zero, suc, ◌+◌, ◌*◌, ◌≤◌, ◌<◌}
+use Prim.Native.Nat.{ℕ, zero, suc, ◌+◌, ◌-◌, ◌*◌, ◌≤◌, ◌<◌, min}
 use native.Mathlib.Nat.{add-zero, add-suc}
 use native.Mathlib.Omega.{arith}
 use lib.Dec.{eqb}
-use lib.ListN.{length, get_or, get_or-append}
-use lib.Seq.{get_or-append-add}
+use lib.ListN.{length, get_or, get_or-append, take, length-append, length-take}
+use lib.Seq.{get_or-append-add, take-append_seam, take-take}
 use Rattle.rows.specs.Kinds.{COMMENT}
 use Rattle.rows.specs.Places.{KIND, ORIGIN, START, SIZE, PLACES}
 use Rattle.rows.specs.Node.{Text}
@@ -54,3 +54,34 @@ comments_join (suc m) n xs ys h =
     ∙ ap (λ (cs : List Text). cs ++ comment_at (xs ++ ys) (n + m)) (comments_join m n xs ys h)
     ∙ ap (λ (cs : List Text). comments_in xs n ++ comments_in ys m ++ cs) (comment_after xs ys n m h)
     ∙ append_assoc (comments_in xs n) (comments_in ys m) (comment_at ys m)
+
+-- ---- the comments before an earlier row are the first of those before a later one
+record Front (xs ys : List Text) : Type 0 where
+  rest : List Text
+  is : ys ≡ xs ++ rest
+
+comments_front : (store : List ℕ) (a j : ℕ) → Front (comments_in store a) (comments_in store (a + j))
+comments_front store a zero = record { rest = []; is = ap (comments_in store) (add-zero a) ∙ sym (append-nil (comments_in store a)) }
+comments_front store a (suc j) =
+    let f = comments_front store a j in
+    record {
+      rest = f.rest ++ comment_at store (a + j);
+      is =
+          ap (comments_in store) (add-suc a j)
+          ∙ ap (λ (l : List Text). l ++ comment_at store (a + j)) f.is
+          ∙ append_assoc (comments_in store a) f.rest (comment_at store (a + j));
+    }
+
+front_taken : (xs ys l : List Text) (n : ℕ) → Front xs ys → ys ≡ take n l → xs ≡ take (length xs) l
+front_taken xs ys l n f e =
+    let z : length ys ≡ length xs + length f.rest = ap length f.is ∙ length-append xs f.rest in
+    let y : length ys ≡ min n (length l) = ap length e ∙ length-take n l in
+    sym (take-append_seam xs f.rest) ∙ ap (take (length xs)) (sym f.is ∙ e) ∙ take-take (length xs) n l (omega arith)
+
+-- so, where those before row n are the first of a list, those before row a are
+pub comments_ahead : (store : List ℕ) (a n k : ℕ) (listed : List Text) → a ≤ n → comments_in store n ≡ take k listed
+    → comments_in store a ≡ take (length (comments_in store a)) listed
+comments_ahead store a n k listed h e =
+    let i : a + (n - a) ≡ n = omega arith in
+    front_taken (comments_in store a) (comments_in store n) listed k
+    (subst (λ (j : ℕ). Front (comments_in store a) (comments_in store j)) i (comments_front store a (n - a))) e

@@ -41,12 +41,15 @@ module _ (R : Rules) (w : Carried R) (out : List ℕ) where
       txt : List ℕ
       txt = (render_gives R q w.render_state_of w.store w.marks).text
 
+      count : ℕ
+      count = (render_gives R q w.render_state_of w.store w.marks).entered
+
       go : (o : Option Refusal) → ◌≡◌ {A = Carried R} (record {
         store = w.store;
         marks = unless o w.marks new.marks;
         layout_state_of = w.layout_state_of;
-        render_state_of = render_next R (answer_by o (written new.render_state_of (length txt))) w.render_state_of;
-        text = w.text ++ written_of R (answer_by o (written new.render_state_of (length txt))) (unless o out (write_front txt out));
+        render_state_of = render_next R (answer_by o (written new.render_state_of (length txt) count)) w.render_state_of;
+        text = w.text ++ written_of R (answer_by o (written new.render_state_of (length txt) count)) (unless o out (write_front txt out));
         left = w.left;
       }) (unless o w (accepted R w (render_call q)))
       go (Some r) = ap (with_text w) (append-nil w.text)

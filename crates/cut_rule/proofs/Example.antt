@@ -1,30 +1,37 @@
 -- A small instance: the laws of the parts can hold together, lists of calls compute, and the rule needs its hypothesis. Two declarations, each
--- of which places a comment; rendering writes the nine numbers of each row that it reads.
+-- of which places a comment; each row is a top row, and rendering writes the nine numbers of each row that it enters.
 -- Assumes nothing.
-use mathlib.Core.Path.{◌≡◌, refl, sym, ap, ap₂, ◌∙◌}
+use mathlib.Core.Path.{◌≡◌, refl, sym, ap, ◌∙◌}
 use mathlib.Core.Bool.{Bool, true, false, cond}
 use Rattle.std.specs.Prelude.{Option, None, Some}
 use mathlib.Core.List.{List, [], ◌∷◌, ◌++◌}
-use Prim.Native.Nat.{ℕ, suc, zero, suc, ◌+◌, ◌-◌, ◌*◌, ◌≤◌, ◌<◌}
+use Prim.Native.Nat.{ℕ, zero, suc, ◌+◌, ◌-◌, ◌*◌, ◌≤◌, ◌<◌, min}
 use native.Mathlib.Omega.{arith}
 use borrow.Author.Tests.{leb-true, le-leb, ltb-true}
 use lib.Dec.{ltb, leb}
 use lib.ListN.{length, get_or, take, drop, replicate, take-append-drop, length-take}
 use lib.Seq.{take-take}
+use Rattle.rows.specs.Kinds.{INDENT, INDENT_NEXT, STR}
 use Rattle.rows.specs.Places.{PLACES}
+use Rattle.rows.specs.View.{view_of}
 use Rattle.renderer_rules.specs.Limits.{MAX_INDENT, MAX_COLUMN}
-use Rattle.renderer_rules.specs.declared.Pen.{Pen}
-use Rattle.refusals.specs.Refusals.{Refusal, any}
+use Rattle.renderer_rules.specs.Renderer.{indent_less, next_indent_less}
+use Rattle.renderer_rules.specs.Drift.{enclosing}
+use Rattle.renderer_rules.specs.Stops.{OpenRow, trailing}
+use Rattle.renderer_rules.specs.Listed.{reads_from, same_rows, closed_all, can_close_all}
+use Rattle.refusals.specs.Refusals.{Refusal, any, first}
 use Rattle.refusals.specs.Answers.{Answer, refused, accepted}
 use Rattle.cut_rule.specs.Run.{Call, layout_call, render_call, Carried, start, run, CallResult, laid_out, written, answers}
-use Rattle.cut_rule.specs.Plain.{at_first, due, plain, AllReadLaid}
+use Rattle.cut_rule.specs.Rules.{RenderArgs}
+use Rattle.cut_rule.specs.Laws.{SameBefore}
+use Rattle.cut_rule.specs.Plain.{Progress, at_first, due, plain, AllReadLaid}
 use Rattle.rows.specs.Node.{Text}
 use Rattle.cut_rule.specs.CutRule.{comments_in, CutRule}
-use Rattle.cut_rule.specs.States.{OLD_MODE, NEW_MODE, Cursor, LayoutState, layout_fresh}
-use Rattle.cut_rule.specs.Limits.{REFERENCE_WIDTH, MIN_RULE}
-use Rattle.cut_rule.specs.Tests.{begun_tests, pen_tests, mark_tests, width_tests, rule_tests}
-use Rattle.cut_rule.specs.Parts.{Piece, RuleParts, rules}
-use Rattle.cut_rule.specs.PartLaws.{Counts, LayoutPartLaws, PlacesNext, CommentPartLaws, RenderPartLaws}
+use Rattle.cut_rule.specs.States.{OLD_MODE, NEW_MODE, RenderChoice, Cursor, LayoutState, RenderState, layout_fresh, render_fresh}
+use Rattle.cut_rule.specs.Limits.{REFERENCE_WIDTH, MIN_RULE, MAX_ALLOTMENT}
+use Rattle.cut_rule.specs.Tests.{begun_tests, pen_tests, mark_tests, width_tests, rule_tests, listed_tests}
+use Rattle.cut_rule.specs.Parts.{Piece, Drawn, RuleParts, render_table, rules}
+use Rattle.cut_rule.specs.PartLaws.{Counts, LayoutPartLaws, PlacesNext, CommentPartLaws, then_drawn, StoppedAt, RenderPartLaws}
 use Rattle.cut_rule.proofs.Document.{parts_cut}
 
 abbrev listed : List Text
@@ -47,6 +54,20 @@ abbrev in_store : Bool → Option ℕ
 in_store true = None
 in_store false = Some 0
 
+-- the numbers of the rows from one up to another; and of the next n
+abbrev rows_text : ℕ → ℕ → List ℕ → List ℕ
+rows_text i j store = drop (PLACES * i) (take (PLACES * j) store)
+
+abbrev drawn_rows : RenderState → ℕ → List ℕ → List ℕ → Drawn
+drawn_rows s n marks store = record {
+  pen = s.pen;
+  listed = [];
+  row = s.row + n;
+  marks = marks;
+  text = rows_text s.row (s.row + n) store;
+  entered = n;
+}
+
 -- by what refuses the strict reading, and not the earlier one
 abbrev small_by : Option Refusal → RuleParts
 small_by order = record {
@@ -61,7 +82,7 @@ small_by order = record {
   final = λ k. line;
   wrong_row = λ c store i n. in_store (leb (PLACES * n) (length store));
   needed = λ store i n. 1;
-  draw = λ s q marks store. record { pen = s.pen; marks = marks; text = drop (PLACES * s.row) (take (PLACES * q.stop) store) };
+  draw = λ s q n marks store. drawn_rows s (min n (q.stop - s.row)) marks store;
 }
 
 abbrev small : RuleParts
@@ -121,11 +142,52 @@ stop_in n store e = go (leb (PLACES * n) (length store)) refl e
 right_in : (n : ℕ) (store : List ℕ) → PLACES * n ≤ length store → in_store (leb (PLACES * n) (length store)) ≡ None
 right_in n store h = ap in_store (le-leb (PLACES * n) (length store) h)
 
-parts_join : (store : List ℕ) (n m : ℕ) → n ≤ m
-    → drop (PLACES * 0) (take (PLACES * m) store) ≡ drop (PLACES * 0) (take (PLACES * n) store) ++ drop (PLACES * n) (take (PLACES * m) store)
+parts_join : (store : List ℕ) (n m : ℕ) → n ≤ m → rows_text 0 m store ≡ rows_text 0 n store ++ rows_text n m store
 parts_join store n m h =
     sym (take-append-drop (PLACES * n) (take (PLACES * m) store))
     ∙ ap (λ (r : List ℕ). r ++ drop (PLACES * n) (take (PLACES * m) store)) (take-take (PLACES * n) (PLACES * m) store (omega arith))
+
+parts_local : (i j n : ℕ) (store other : List ℕ) → j ≤ n → SameBefore n store other → rows_text i j store ≡ rows_text i j other
+parts_local i j n store other h e =
+    ap (drop (PLACES * i))
+    (sym (take-take (PLACES * j) (PLACES * n) store (omega arith))
+    ∙ ap (take (PLACES * j)) e
+    ∙ take-take (PLACES * j) (PLACES * n) other (omega arith))
+
+-- as many rows, from as many before
+same_count : (marks store : List ℕ) (n m : ℕ) → n ≡ m → drawn_rows render_fresh n marks store ≡ drawn_rows render_fresh m marks store
+same_count marks store n m e = ap (λ (j : ℕ). drawn_rows render_fresh j marks store) e
+
+rows_join : (s : RenderState) (stop j k : ℕ) (marks store : List ℕ) → StoppedAt (drawn_rows render_fresh (min j (stop - 0)) marks store) s
+    → drawn_rows render_fresh (min (j + k) (stop - 0)) marks store
+    ≡ then_drawn (drawn_rows render_fresh (min j (stop - 0)) marks store) (λ ms. drawn_rows s (min k (stop - s.row)) ms store)
+rows_join s stop j k marks store there = λ i. record {
+  pen = sym there.pen i;
+  listed = [];
+  row = rows i;
+  marks = marks;
+  text = texts i;
+  entered = counts i;
+}
+  where
+    at : s.row ≡ 0 + min j (stop - 0)
+    at = there.row
+
+    last : ℕ
+    last = s.row + min k (stop - s.row)
+
+    rows : 0 + min (j + k) (stop - 0) ≡ s.row + min k (stop - s.row)
+    rows = omega (arith, at)
+
+    counts : min (j + k) (stop - 0) ≡ min j (stop - 0) + min k (stop - s.row)
+    counts = omega (arith, at)
+
+    texts : rows_text 0 (0 + min (j + k) (stop - 0)) store
+        ≡ rows_text 0 (0 + min j (stop - 0)) store ++ rows_text s.row (s.row + min k (stop - s.row)) store
+    texts =
+        ap (λ (m : ℕ). rows_text 0 m store) rows
+        ∙ parts_join store s.row (s.row + min k (stop - s.row)) (omega arith)
+        ∙ ap (λ (n : ℕ). rows_text 0 n store ++ rows_text s.row (s.row + min k (stop - s.row)) store) at
 
 render_parts : RenderPartLaws small
 render_parts = record {
@@ -136,12 +198,20 @@ render_parts = record {
       let h : PLACES * n ≤ length store = stop_in n store f in
       right_in n other (omega (arith, ap length e, length-take (PLACES * n) store, length-take (PLACES * n) other));
   needed_local = λ store other i n e. refl;
-  draw_local = λ s q marks store other e. ap (λ (r : List ℕ). record { pen = s.pen; marks = marks; text = drop (PLACES * s.row) r }) e;
-  draw_marks = λ s q marks store. refl;
-  draw_past = λ s q marks past store z e h. refl;
-  draw_join = λ s t p q marks store z a e f g h.
-      ap₂ (λ (y : Pen) (r : List ℕ). record { pen = y; marks = marks; text = r }) (sym h.pen)
-      (rw (z, h.row) (parts_join store p.stop q.stop a.not_past));
+  draw_local = λ q n marks store other u e.
+      let j = min n (q.stop - 0) in
+      ap (λ (r : List ℕ). record { pen = render_fresh.pen; listed = []; row = 0 + j; marks = marks; text = r; entered = j })
+      (parts_local 0 (0 + j) q.stop store other (omega arith) e);
+  draw_marks = λ s q n marks store. refl;
+  draw_past = λ q n marks past store e h. refl;
+  stop_row = λ q n marks store e. omega arith;
+  stop_top = λ q n marks store e. right_in (0 + min n (q.stop - 0)) store (omega (arith, stop_in q.stop store e));
+  enters = λ q n marks store e. omega arith;
+  runs_out = λ q n marks store e.
+      same_count marks store (min n (q.stop - 0)) (min (min n (min q.stop (q.stop - 0))) (q.stop - 0)) (omega arith);
+  further_stop = λ c f t n marks store l u v h. same_count marks store (min n (t - 0)) (min n (f - 0)) (omega arith);
+  nearer_stop = λ c t f n marks store l u v h r. omega arith;
+  draw_join = λ s q j k marks store e h there. rows_join s q.stop j k marks store there;
 }
 
 -- the rule holds of the instance
@@ -159,8 +229,13 @@ lay_in mode n b = lay_by MIN_RULE mode n b
 abbrev lay_to : ℕ → Bool → Call (rules small)
 lay_to n b = lay_in OLD_MODE n b
 
+abbrev render_args : ℕ → ℕ → ℕ → ℕ → ℕ → RenderArgs RenderChoice
+render_args allotment rule width n room =
+    record { to = record { stop = n; choice = record { width = width; rule = rule } }; allotment = allotment; room = room }
+
+-- with the largest allotment
 abbrev render_by : ℕ → ℕ → ℕ → ℕ → Call (rules small)
-render_by rule width n room = render_call (record { to = record { stop = n; choice = record { width = width; rule = rule } }; room = room })
+render_by rule width n room = render_call (render_args MAX_ALLOTMENT rule width n room)
 
 abbrev render_at : ℕ → ℕ → ℕ → Call (rules small)
 render_at width n room = render_by MIN_RULE width n room
@@ -168,12 +243,12 @@ render_at width n room = render_by MIN_RULE width n room
 abbrev render_to : ℕ → ℕ → Call (rules small)
 render_to n room = render_at REFERENCE_WIDTH n room
 
--- number and place of a refusal; 100 and the comments left; 200 and the bytes written
+-- number and place of a refusal; 100 and the comments left; 200, the bytes written and the rows entered
 abbrev numbers_by : (P : RuleParts) → List (Answer (CallResult (rules P))) → List (List ℕ)
 numbers_by P [] = []
 numbers_by P (refused r ∷ rest) = (r.number ∷ r.place ∷ []) ∷ numbers_by P rest
 numbers_by P (accepted (laid_out s n) ∷ rest) = (100 ∷ n ∷ []) ∷ numbers_by P rest
-numbers_by P (accepted (written s n) ∷ rest) = (200 ∷ n ∷ []) ∷ numbers_by P rest
+numbers_by P (accepted (written s n k) ∷ rest) = (200 ∷ n ∷ k ∷ []) ∷ numbers_by P rest
 
 abbrev as_numbers : List (Answer (CallResult (rules small))) → List (List ℕ)
 as_numbers = numbers_by small
@@ -204,19 +279,23 @@ tried =
     ∷ []
 
 tried_answers : as_numbers (answers (rules small) (start (rules small) nines fives) tried)
-    ≡ (12 ∷ 0 ∷ []) ∷ (12 ∷ 0 ∷ []) ∷ (100 ∷ 1 ∷ []) ∷ (10 ∷ 9 ∷ []) ∷ (200 ∷ 9 ∷ []) ∷ (12 ∷ 0 ∷ [])
-    ∷ (100 ∷ 0 ∷ []) ∷ (11 ∷ 0 ∷ []) ∷ (100 ∷ 0 ∷ []) ∷ (12 ∷ 0 ∷ []) ∷ (200 ∷ 18 ∷ []) ∷ (200 ∷ 0 ∷ []) ∷ []
+    ≡ (12 ∷ 0 ∷ []) ∷ (12 ∷ 0 ∷ []) ∷ (100 ∷ 1 ∷ []) ∷ (10 ∷ 9 ∷ []) ∷ (200 ∷ 9 ∷ 1 ∷ []) ∷ (12 ∷ 0 ∷ [])
+    ∷ (100 ∷ 0 ∷ []) ∷ (11 ∷ 0 ∷ []) ∷ (100 ∷ 0 ∷ []) ∷ (12 ∷ 0 ∷ []) ∷ (200 ∷ 18 ∷ 2 ∷ []) ∷ (200 ∷ 0 ∷ 0 ∷ []) ∷ []
+unfolding can_close_all
 tried_answers = refl
 
 tried_short : as_numbers (answers (rules small) (start (rules small) (replicate 26 9) []) (lay_to 2 true ∷ lay_to 2 false ∷ render_to 1 9 ∷ []))
     ≡ (8 ∷ 3 ∷ []) ∷ (100 ∷ 0 ∷ []) ∷ (9 ∷ 1 ∷ []) ∷ []
+unfolding can_close_all
 tried_short = refl
 
 tried_store : (run (rules small) (start (rules small) nines fives) tried).store
     ≡ 4 ∷ 0 ∷ 0 ∷ 0 ∷ 1 ∷ 0 ∷ 0 ∷ 1 ∷ 0 ∷ 4 ∷ 0 ∷ 0 ∷ 0 ∷ 2 ∷ 0 ∷ 1 ∷ 1 ∷ 0 ∷ 7 ∷ 0 ∷ 0 ∷ 0 ∷ 3 ∷ 0 ∷ 0 ∷ 0 ∷ 0 ∷ 9 ∷ 9 ∷ []
+unfolding can_close_all
 tried_store = refl
 
 tried_marks : (run (rules small) (start (rules small) nines fives) tried).marks ≡ 0 ∷ 5 ∷ []
+unfolding can_close_all
 tried_marks = refl
 
 -- a mode over 1; and, once begun in the new mode, the old one
@@ -236,7 +315,8 @@ tried_fresh = refl
 -- 20: none, and one past the last; a rule that differs from the carried one is 12, of either kind of call, each held to its own
 tried_rules : as_numbers (answers (rules small) (start (rules small) nines fives)
     (lay_by 0 0 1 false ∷ lay_by 4 3 9 true ∷ lay_by 2 0 1 false ∷ lay_by 3 0 2 false ∷ render_by 0 39 9 9 ∷ render_by 3 80 1 9 ∷ render_by 2 39 1 9 ∷ []))
-    ≡ (20 ∷ 0 ∷ []) ∷ (20 ∷ 0 ∷ []) ∷ (100 ∷ 1 ∷ []) ∷ (12 ∷ 0 ∷ []) ∷ (20 ∷ 0 ∷ []) ∷ (200 ∷ 9 ∷ []) ∷ (12 ∷ 0 ∷ []) ∷ []
+    ≡ (20 ∷ 0 ∷ []) ∷ (20 ∷ 0 ∷ []) ∷ (100 ∷ 1 ∷ []) ∷ (12 ∷ 0 ∷ []) ∷ (20 ∷ 0 ∷ []) ∷ (200 ∷ 9 ∷ 1 ∷ []) ∷ (12 ∷ 0 ∷ []) ∷ []
+unfolding can_close_all
 tried_rules = refl
 
 -- none carried yet, the carried one, another, and one that no call could have chosen
@@ -295,21 +375,174 @@ tried_legal = refl
 tried_order : as_numbers (answers (rules small) (start (rules small) nines [])
     (lay_to 1 false ∷ render_at 39 4 0 ∷ render_at 39 1 0 ∷ render_to 1 0 ∷ []))
     ≡ (100 ∷ 1 ∷ []) ∷ (11 ∷ 0 ∷ []) ∷ (15 ∷ 0 ∷ []) ∷ (9 ∷ 1 ∷ []) ∷ []
+unfolding can_close_all
 tried_order = refl
 
 tried_choice : as_numbers (answers (rules small) (start (rules small) nines fives)
     (lay_to 1 false ∷ render_at 100 0 0 ∷ render_at 80 1 0 ∷ render_at 100 1 0 ∷ render_at 100 1 9 ∷ render_at 80 0 9 ∷ render_at 80 1 9 ∷ []))
-    ≡ (100 ∷ 1 ∷ []) ∷ (200 ∷ 0 ∷ []) ∷ (15 ∷ 0 ∷ []) ∷ (10 ∷ 9 ∷ []) ∷ (200 ∷ 9 ∷ []) ∷ (12 ∷ 0 ∷ []) ∷ (15 ∷ 0 ∷ []) ∷ []
+    ≡ (100 ∷ 1 ∷ []) ∷ (200 ∷ 0 ∷ 0 ∷ []) ∷ (15 ∷ 0 ∷ []) ∷ (10 ∷ 9 ∷ []) ∷ (200 ∷ 9 ∷ 1 ∷ []) ∷ (12 ∷ 0 ∷ []) ∷ (15 ∷ 0 ∷ []) ∷ []
+unfolding can_close_all
 tried_choice = refl
+
+-- ---- allotments
+abbrev render_some : ℕ → ℕ → ℕ → Call (rules small)
+render_some allotment n room = render_call (render_args allotment MIN_RULE REFERENCE_WIDTH n room)
+
+-- three rows laid out, and then these calls
+abbrev laid_then : List (Call (rules small)) → Carried (rules small)
+laid_then calls = run (rules small) (start (rules small) nines fives) (lay_to 2 true ∷ calls)
+
+abbrev laid_answers : List (Call (rules small)) → List (List ℕ)
+laid_answers calls = as_numbers (answers (rules small) (start (rules small) nines fives) (lay_to 2 true ∷ calls))
+
+abbrev laid_progress : List (Call (rules small)) → Progress (rules small)
+laid_progress calls = plain (rules small) nines fives (at_first (rules small)) (lay_to 2 true ∷ calls)
+
+-- one row, one more, and more than are left; then none is. However they fall, they are one rendering.
+abbrev pieces : List (Call (rules small))
+pieces = render_some 1 3 9 ∷ render_some 1 3 9 ∷ render_some 5 3 9 ∷ []
+
+tried_pieces : laid_answers (pieces ++ (render_some 1 3 0 ∷ []))
+    ≡ (100 ∷ 0 ∷ []) ∷ (200 ∷ 9 ∷ 1 ∷ []) ∷ (200 ∷ 9 ∷ 1 ∷ []) ∷ (200 ∷ 9 ∷ 1 ∷ []) ∷ (200 ∷ 0 ∷ 0 ∷ []) ∷ []
+unfolding can_close_all
+tried_pieces = refl
+
+pieces_joined : laid_then pieces ≡ laid_then (render_to 3 27 ∷ [])
+unfolding can_close_all
+pieces_joined = refl
+
+-- The furthest stop is kept: a call with a nearer one enters those before its own, and may find none; a nearer one than the next row is 12.
+abbrev nearer : List (Call (rules small))
+nearer = render_some 1 3 9 ∷ render_some 5 2 9 ∷ render_some 5 2 9 ∷ render_some 5 1 9 ∷ []
+
+tried_nearer : laid_answers nearer ≡ (100 ∷ 0 ∷ []) ∷ (200 ∷ 9 ∷ 1 ∷ []) ∷ (200 ∷ 9 ∷ 1 ∷ []) ∷ (200 ∷ 0 ∷ 0 ∷ []) ∷ (12 ∷ 0 ∷ []) ∷ []
+unfolding can_close_all
+tried_nearer = refl
+
+nearer_came_to : (laid_progress nearer).rendered_to ≡ Some (record { to = (render_args 0 MIN_RULE REFERENCE_WIDTH 3 0).to; entered = 2 })
+unfolding can_close_all
+nearer_came_to = refl
+
+-- and a further one moves on
+further_came_to : (laid_progress (render_some 5 1 9 ∷ render_some 1 3 9 ∷ [])).rendered_to
+    ≡ Some (record { to = (render_args 0 MIN_RULE REFERENCE_WIDTH 3 0).to; entered = 2 })
+unfolding can_close_all
+further_came_to = refl
+
+-- the comments ahead of a stop: none yet, one, both
+abbrev ahead_of : List (Call (rules small)) → List Text
+ahead_of calls = comments_in (laid_then calls).store (laid_then calls).render_state_of.row
+
+tried_ahead : ahead_of [] ∷ ahead_of (render_some 1 3 9 ∷ []) ∷ ahead_of (render_some 2 3 18 ∷ []) ∷ ahead_of pieces ∷ []
+    ≡ [] ∷ take 1 listed ∷ listed ∷ listed ∷ []
+unfolding can_close_all
+tried_ahead = refl
+
+-- 22 comes after 15 and before 9 and 10, whether rows are left or not
+tried_none : as_numbers (answers (rules small) (start (rules small) nines [])
+    (lay_to 2 true
+    ∷ render_call (render_args 0 MIN_RULE 39 3 0)
+    ∷ render_some 0 3 0
+    ∷ render_some 0 0 0
+    ∷ render_some 1 3 0
+    ∷ []))
+    ≡ (100 ∷ 0 ∷ []) ∷ (15 ∷ 0 ∷ []) ∷ (22 ∷ 0 ∷ []) ∷ (22 ∷ 0 ∷ []) ∷ (9 ∷ 1 ∷ []) ∷ []
+unfolding can_close_all
+tried_none = refl
+
+-- ---- rows that a state lists, over an `Indent` of an `IndentNext` of two texts and of a third
+abbrev nested_row : ℕ → ℕ → List ℕ
+nested_row kind after = kind ∷ 0 ∷ 0 ∷ 0 ∷ after ∷ 0 ∷ 0 ∷ 0 ∷ 0 ∷ []
+
+abbrev nested : List ℕ
+nested = nested_row INDENT 5 ++ (nested_row INDENT_NEXT 4 ++ (nested_row STR 3 ++ (nested_row STR 4 ++ nested_row STR 5)))
+
+-- a row listed, which wraps or not
+abbrev open_row : ℕ → Bool → OpenRow
+open_row i wraps = record { row = i; wraps = wraps; way = trailing }
+
+-- the number of the refusal of a call to the stop 5 from row n with these rows listed, at this `indent` and `next_indent`; 0 if none
+abbrev refused_from : ℕ → ℕ → ℕ → ℕ → ℕ → List OpenRow → ℕ
+refused_from allotment n indent next room rows =
+    number_or
+    (first
+    (render_table small (render_args allotment MIN_RULE REFERENCE_WIDTH 5 room)
+    (record {
+      pen = record { indent = indent; next_indent = next; column = record { 0 = 0 } };
+      in_use = 0;
+      row = n;
+      width = 0;
+      rule = 0;
+      listed = rows;
+    })
+    nested fives))
+  where
+    number_or : Option Refusal → ℕ
+    number_or None = 0
+    number_or (Some r) = r.number
+
+-- None listed; all that enclose row 3; those from the second on; before row 4, which one encloses.
+tried_listed : refused_from 1 3 0 0 9 []
+    ∷ refused_from 1 3 0 0 9 (open_row 0 false ∷ open_row 1 false ∷ [])
+    ∷ refused_from 1 3 0 0 9 (open_row 1 false ∷ [])
+    ∷ refused_from 1 4 0 0 9 (open_row 0 false ∷ [])
+    ∷ []
+    ≡ 0 ∷ 0 ∷ 0 ∷ 0 ∷ []
+unfolding view_of enclosing same_rows can_close_all closed_all indent_less next_indent_less
+tried_listed = refl
+
+-- One left out, one twice, one that doesn't enclose row 4, the next row itself, one where all is done.
+tried_others : refused_from 1 3 0 0 9 (open_row 0 false ∷ [])
+    ∷ refused_from 1 3 0 0 9 (open_row 0 false ∷ open_row 0 false ∷ open_row 1 false ∷ [])
+    ∷ refused_from 1 4 0 0 9 (open_row 0 false ∷ open_row 1 false ∷ [])
+    ∷ refused_from 1 3 0 0 9 (open_row 0 false ∷ open_row 1 false ∷ open_row 3 false ∷ [])
+    ∷ refused_from 1 5 0 0 9 (open_row 0 false ∷ [])
+    ∷ []
+    ≡ 23 ∷ 23 ∷ 23 ∷ 23 ∷ 23 ∷ []
+unfolding view_of enclosing same_rows can_close_all closed_all indent_less next_indent_less
+tried_others = refl
+
+-- Both wrap, and closing takes two steps back, the outer one from `indent`: too few, enough, and enough in all but none of `indent`.
+tried_closing : refused_from 1 3 1 0 9 (open_row 0 true ∷ open_row 1 true ∷ [])
+    ∷ refused_from 1 3 2 0 9 (open_row 0 true ∷ open_row 1 true ∷ [])
+    ∷ refused_from 1 3 1 1 9 (open_row 0 true ∷ open_row 1 true ∷ [])
+    ∷ refused_from 1 3 0 2 9 (open_row 0 true ∷ open_row 1 true ∷ [])
+    ∷ []
+    ≡ 23 ∷ 0 ∷ 0 ∷ 23 ∷ []
+unfolding view_of enclosing same_rows can_close_all closed_all indent_less next_indent_less
+tried_closing = refl
+
+-- 22 comes before 23, and 23 before 10
+tried_first : refused_from 0 3 0 0 9 (open_row 0 false ∷ []) ∷ refused_from 1 3 0 0 8 (open_row 0 false ∷ []) ∷ refused_from 1 3 0 0 8 [] ∷ []
+    ≡ 22 ∷ 23 ∷ 10 ∷ []
+unfolding view_of enclosing same_rows can_close_all closed_all indent_less next_indent_less
+tried_first = refl
+
+-- at most 256, whatever they are
+tried_many : any (listed_tests (view_of nested) (record {
+  pen = render_fresh.pen;
+  in_use = 0;
+  row = 3;
+  width = 0;
+  rule = 0;
+  listed = replicate 257 (open_row 1 false);
+})) ≡ true
+tried_many = refl
+
+-- 9 and 11 read from the first listed row if that is the earlier
+tried_read : reads_from [] 3 ∷ reads_from (open_row 1 false ∷ open_row 2 false ∷ []) 3 ∷ reads_from (open_row 4 false ∷ []) 3 ∷ [] ≡ 3 ∷ 1 ∷ 3 ∷ []
+tried_read = refl
 
 -- Why no accepted call may read rows not yet laid out: this one writes what the store held at first, and due is then a row of layout's.
 abbrev early : List (Call (rules small))
 early = render_to 1 9 ∷ lay_to 1 false ∷ []
 
-early_answers : as_numbers (answers (rules small) (start (rules small) nines fives) early) ≡ (200 ∷ 9 ∷ []) ∷ (100 ∷ 1 ∷ []) ∷ []
+early_answers : as_numbers (answers (rules small) (start (rules small) nines fives) early) ≡ (200 ∷ 9 ∷ 1 ∷ []) ∷ (100 ∷ 1 ∷ []) ∷ []
+unfolding can_close_all
 early_answers = refl
 
 early_differs : run (rules small) (start (rules small) nines fives) early
     ≡ due (rules small) nines fives (plain (rules small) nines fives (at_first (rules small)) early)
     → ⊥
+unfolding can_close_all
 early_differs e = let first : ◌≡◌ {A = ℕ} 9 4 = ap (λ (w : Carried (rules small)). get_or w.text 0 0) e in omega arith

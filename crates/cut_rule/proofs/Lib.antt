@@ -2,6 +2,7 @@ pub mod Memory
 pub mod Comments
 pub mod Steps
 pub mod Rule
+pub mod Allotments
 pub mod LayoutOnly
 pub mod Entries
 pub mod Table

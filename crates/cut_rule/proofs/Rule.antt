@@ -6,21 +6,21 @@ use Rattle.std.specs.Prelude.{Option, None, Some}
 use mathlib.Core.List.{List, [], ◌∷◌}
 use Prim.Native.Nat.{ℕ, ◌*◌}
 use native.Mathlib.Omega.{arith}
-use lib.ListN.{length, drop}
+use lib.ListN.{length, take, drop}
 use Rattle.rows.specs.Places.{PLACES}
 use Rattle.refusals.specs.Refusals.{Refusal, unless}
 use Rattle.refusals.specs.Answers.{Answer}
-use Rattle.cut_rule.specs.Rules.{LayoutArgs, RenderTo, Rules}
-use Rattle.cut_rule.specs.Run.{Call, layout_call, render_call, Carried, start, refusal, rendered, accepted, call, run}
+use Rattle.cut_rule.specs.Rules.{LayoutArgs, Rules}
+use Rattle.cut_rule.specs.Run.{write_front, Call, layout_call, render_call, Carried, start, refusal, rendered, accepted, call, run}
 use Rattle.cut_rule.specs.Run.{CallResult, answer, answers}
-use Rattle.cut_rule.specs.Plain.{Progress, at_first, layout_due, left_due, due, plain_call, plain, answers_due, IsAccepted, AllReadLaid}
-use Rattle.cut_rule.specs.Plain.{AllReadDue}
+use Rattle.cut_rule.specs.Plain.{RenderedTo, Progress, at_first, layout_due, render_due, left_due, due, plain_call, plain, answers_due, IsAccepted}
+use Rattle.cut_rule.specs.Plain.{AllReadLaid, AllReadDue}
 use Rattle.rows.specs.Node.{Text}
-use Rattle.cut_rule.specs.CutRule.{CommentsKept, SameRoom}
+use Rattle.cut_rule.specs.CutRule.{comments_in, CommentsKept, CommentsAhead, SameRoom}
 use Rattle.cut_rule.specs.Laws.{LayoutLaws, RenderLaws, CommentLaws, RoomLaws}
 use Rattle.cut_rule.proofs.Memory.{length_front, length_at}
-use Rattle.cut_rule.proofs.Comments.{comments_before}
-use Rattle.cut_rule.proofs.Steps.{LaidOk, ProgressOk, one_call}
+use Rattle.cut_rule.proofs.Comments.{comments_before, comments_ahead}
+use Rattle.cut_rule.proofs.Steps.{LaidOk, RenderedOk, ProgressOk, next_laid, one_call}
 
 module _ (R : Rules) (L : LayoutLaws R) (D : RenderLaws R) where
   abbrev Ok : Progress R → Type 0
@@ -97,7 +97,7 @@ module _ (R : Rules) (L : LayoutLaws R) (D : RenderLaws R) where
 
   -- ---- the comments
   module _ (listed : List Text) (K : CommentLaws R L listed) where
-    kept_due : (s m : List ℕ) (o : Option (LayoutArgs R.LayoutChoice)) (d : Option (RenderTo R.RenderChoice)) → LaidOk R L D o
+    kept_due : (s m : List ℕ) (o : Option (LayoutArgs R.LayoutChoice)) (d : Option (RenderedTo R.RenderChoice)) → LaidOk R L D o
         → (n : ℕ) → left_due R o ≡ Some n → CommentsKept R listed (due R s m (record { laid_to_of = o; rendered_to = d })) n
     kept_due s m None d k n e = let z : ◌≡◌ {A = ℕ} 0 1 = cc in absurd (omega arith)
     kept_due s m (Some q) d k n e =
@@ -116,6 +116,30 @@ module _ (R : Rules) (L : LayoutLaws R) (D : RenderLaws R) where
         let k = progress_ok store₀ marks₀ calls a in
         subst (λ (w : Carried R). CommentsKept R listed w n) (sym t)
         (kept_due store₀ marks₀ f.laid_to_of f.rendered_to k.laid_ok n (sym (ap (λ (w : Carried R). w.left) t) ∙ e))
+
+    -- ---- and those ahead of where rendering stopped
+    ahead_due : (s m : List ℕ) (o : Option (LayoutArgs R.LayoutChoice)) (d : Option (RenderedTo R.RenderChoice)) → LaidOk R L D o
+        → RenderedOk R L D (layout_due R o).rows d → CommentsAhead R listed (due R s m (record { laid_to_of = o; rendered_to = d }))
+    ahead_due s m None d k q =
+        let h = next_laid R L D [] d q in
+        let z : R.next_of (render_due R [] d).state ≡ 0 = omega arith in
+        record { first = ap (comments_in s) z ∙ ap (λ (n : ℕ). take (length (comments_in s n)) listed) (sym z) }
+    ahead_due s m (Some p) d k q =
+        let l = layout_due R (Some p) in
+        let r : PLACES * R.next_row l.state ≡ length l.rows = L.due_row p k in
+        let h = next_laid R L D l.rows d q in
+        record {
+          first =
+              comments_ahead (write_front l.rows s) (R.next_of (render_due R l.rows d).state) (R.next_row l.state) (R.placed l.state) listed (omega arith)
+              (comments_before (R.next_row l.state) l.rows (drop (length l.rows) s) (omega arith) ∙ K.first_placed p k);
+        }
+
+    pub all_ahead : (store₀ marks₀ : List ℕ) (calls : List (Call R)) → AllReadLaid R (start R store₀ marks₀) calls
+        → CommentsAhead R listed (run R (start R store₀ marks₀) calls)
+    all_ahead store₀ marks₀ calls a =
+        let f = plain R store₀ marks₀ (at_first R) calls in
+        let k = progress_ok store₀ marks₀ calls a in
+        subst (CommentsAhead R listed) (sym (cut_rule store₀ marks₀ calls a)) (ahead_due store₀ marks₀ f.laid_to_of f.rendered_to k.laid_ok k.rendered_ok)
 
 -- ---- no memory grows or shrinks
 module _ (R : Rules) (M : RoomLaws R) where

@@ -1,27 +1,30 @@
--- What an accepted call tells: each line of the table lets it pass, and so does each group of tests of 12 and 15.
+-- What an accepted call tells: each line of the table lets it pass, and so does each group of tests of 12, 15, 22 and 23.
 -- Assumes nothing.
 use mathlib.Core.Path.{◌≡◌, refl, sym}
 use mathlib.Core.Bool.{Bool, true, false, not, ◌&&◌, ◌||◌}
 use Rattle.std.specs.Prelude.{None}
 use mathlib.Core.List.{List, [], ◌∷◌, ◌++◌}
-use Prim.Native.Nat.{ℕ, ◌≤◌}
+use Prim.Native.Nat.{ℕ, zero, suc, ◌≤◌}
 use borrow.Author.Tests.{ltb-false, eqb-true, ne_eqb, not-false}
 use native.Mathlib.Omega.{arith}
 use lib.Dec.{ltb, eqb}
 use lib.ListN.{length, take}
 use Rattle.laws.proofs.Booleans.{or_first, or_rest, false_true, true_false}
 use Rattle.rows.specs.Limits.{MAX_ROWS, MAX_NUMBER}
+use Rattle.rows.specs.View.{View, view_of}
 use Rattle.renderer_rules.specs.Limits.{MAX_INDENT, MAX_COLUMN}
+use Rattle.renderer_rules.specs.Listed.{listed_those, can_close_all}
 use Rattle.refusals.specs.Refusals.{first, refuse_if, refuse_at, any}
 use Rattle.refusals.proofs.Groups.{none_left, none_right, passes_left, passes_right, passes_line, passes_others, not_if, not_at}
-use Rattle.cut_rule.specs.Limits.{MIN_WIDTH, MAX_WIDTH, MIN_RULE, MAX_RULE}
+use Rattle.cut_rule.specs.Limits.{MIN_WIDTH, MAX_WIDTH, MIN_RULE, MAX_RULE, MAX_LISTED}
 use Rattle.cut_rule.specs.Rules.{LayoutArgs, RenderArgs}
 use Rattle.renderer_rules.specs.declared.Pen.{Pen}
 use Rattle.cut_rule.specs.States.{LayoutChoice, RenderChoice, LayoutState, RenderState, NEW_MODE}
 use Rattle.cut_rule.specs.Tests.{rows_in, odd_mark, places_tests, limit_tests, begun_tests, stop_tests, mode_tests}
 use Rattle.cut_rule.specs.Tests.{layout_tests_in, row_tests, pen_tests, mark_tests, render_tests, width_tests, differs, rule_tests, chosen_tests}
+use Rattle.cut_rule.specs.Tests.{allotment_tests, listed_tests}
 use Rattle.cut_rule.specs.Parts.{RuleParts, layout_tests, rows_needed, before_rows, rows_line, layout_table, rule_line, width_line}
-use Rattle.cut_rule.specs.Parts.{marks_for, before_marks, marks_line, before_text, text_line, render_table}
+use Rattle.cut_rule.specs.Parts.{allotment_line, listed_line, read_from, marks_for, before_marks, marks_line, before_text, text_line, render_table}
 
 -- no test of a list holds, and the first is one of two numbers
 first_within : (a b : ℕ) (rest : Bool) → (ltb a b || rest) ≡ false → b ≤ a
@@ -33,7 +36,7 @@ pub record LegalRule (rule : ℕ) : Type 0 where
   pub least : MIN_RULE ≤ rule
   pub most : rule ≤ MAX_RULE
 
-rule_legal : (other : Bool) (rule : ℕ) → any (chosen_tests other rule) ≡ false → LegalRule rule
+pub rule_legal : (other : Bool) (rule : ℕ) → any (chosen_tests other rule) ≡ false → LegalRule rule
 rule_legal other rule e = record {
   least = first_within rule MIN_RULE _ e;
   most = first_within MAX_RULE rule _ (or_rest (ltb rule MIN_RULE) _ e);
@@ -231,6 +234,30 @@ width_fits width carried e =
       same = or_first (differs width carried) _ e3;
     }
 
+-- ---- 22 and 23
+some_allotted : (n : ℕ) → any (allotment_tests n) ≡ false → 1 ≤ n
+some_allotted n e = ne_zero n (or_first (eqb n 0) _ e)
+  where
+    ne_zero : (n : ℕ) → eqb n 0 ≡ false → 1 ≤ n
+    ne_zero zero e = true_false e
+    ne_zero (suc n) e = omega arith
+
+-- rows that 23 lets pass
+pub record ListedFits (v : View) (s : RenderState) : Type 0 where
+  pub few : length s.listed ≤ MAX_LISTED
+  pub those : listed_those v s.listed s.row ≡ true
+  pub closable : can_close_all v s.listed s.pen ≡ true
+
+pub listed_fits : (v : View) (s : RenderState) → any (listed_tests v s) ≡ false → ListedFits v s
+listed_fits v s e =
+    let e2 = or_rest (ltb MAX_LISTED (length s.listed)) _ e in
+    let e3 = or_rest (not (listed_those v s.listed s.row)) _ e2 in
+    record {
+      few = first_within MAX_LISTED (length s.listed) _ e;
+      those = not-false (listed_those v s.listed s.row) (or_first (not (listed_those v s.listed s.row)) _ e2);
+      closable = not-false (can_close_all v s.listed s.pen) (or_first (not (can_close_all v s.listed s.pen)) _ e3);
+    }
+
 -- ---- the lines
 module _ (P : RuleParts) where
   pub record LayoutTold (q : LayoutArgs LayoutChoice) (s : LayoutState) (store : List ℕ) : Type 0 where
@@ -266,30 +293,41 @@ module _ (P : RuleParts) where
   -- what the lines before 9 tell
   pub record RenderChecked (q : RenderArgs RenderChoice) (s : RenderState) (store marks : List ℕ) : Type 0 where
     pub legal : LegalRule q.to.choice.rule
-    pub right : P.wrong_row q.to.choice store s.row q.to.stop ≡ None
+    pub right : P.wrong_row q.to.choice store (read_from s) q.to.stop ≡ None
     pub fits : RenderFits q s store marks
     pub width : WidthFits q.to.choice.width s.width
+    pub allotted : 1 ≤ q.allotment
+    pub listed : ListedFits (view_of store) s
 
   pub render_checked : (q : RenderArgs RenderChoice) (s : RenderState) (store marks : List ℕ) → first (before_marks P q s store marks) ≡ None
       → RenderChecked q s store marks
   render_checked q s store marks e =
       let c = q.to.choice in
-      let found = P.wrong_row c store s.row q.to.stop in
+      let found = P.wrong_row c store (read_from s) q.to.stop in
       let tests = any (render_tests q s store marks) in
       let other = P.other_rule c.rule in
       let line_20 = rule_line other c.rule in
       let line_11 = refuse_at found 11 in
       let line_12 = refuse_if tests 12 0 in
       let line_15 = width_line c s in
-      let others = P.render_image_of c ∷ line_11 ∷ line_12 ∷ line_15 ∷ [] in
-      let behind = passes_others (P.render_image_of c) (line_11 ∷ line_12 ∷ line_15 ∷ []) (passes_others line_20 others e) in
-      let after_11 = passes_others line_11 (line_12 ∷ line_15 ∷ []) behind in
-      let after_12 = passes_others line_12 (line_15 ∷ []) after_11 in
+      let line_22 = allotment_line q.allotment in
+      let line_23 = listed_line s store in
+      let last = line_22 ∷ line_23 ∷ [] in
+      let others = P.render_image_of c ∷ line_11 ∷ line_12 ∷ line_15 ∷ last in
+      let behind = passes_others (P.render_image_of c) (line_11 ∷ line_12 ∷ line_15 ∷ last) (passes_others line_20 others e) in
+      let after_11 = passes_others line_11 (line_12 ∷ line_15 ∷ last) behind in
+      let after_12 = passes_others line_12 (line_15 ∷ last) after_11 in
+      let after_15 = passes_others line_15 last after_12 in
+      let after_22 = passes_others line_22 (line_23 ∷ []) after_15 in
       record {
         legal = rule_legal other c.rule (not_if (any (chosen_tests other c.rule)) 20 0 (passes_line line_20 others e));
-        right = not_at found 11 (passes_line line_11 (line_12 ∷ line_15 ∷ []) behind);
-        fits = render_fits q s store marks (not_if tests 12 0 (passes_line line_12 (line_15 ∷ []) after_11));
-        width = width_fits c.width s.width (not_if (any (width_tests c.width s.width)) 15 0 (passes_line line_15 [] after_12));
+        right = not_at found 11 (passes_line line_11 (line_12 ∷ line_15 ∷ last) behind);
+        fits = render_fits q s store marks (not_if tests 12 0 (passes_line line_12 (line_15 ∷ last) after_11));
+        width = width_fits c.width s.width (not_if (any (width_tests c.width s.width)) 15 0 (passes_line line_15 last after_12));
+        allotted =
+            some_allotted q.allotment (not_if (any (allotment_tests q.allotment)) 22 0 (passes_line line_22 (line_23 ∷ []) after_15));
+        listed =
+            listed_fits (view_of store) s (not_if (any (listed_tests (view_of store) s)) 23 0 (passes_line line_23 [] after_22));
       }
 
   -- and 9

@@ -29,6 +29,11 @@ module _ (R : Rules) where
     pub first : comments_in w.store (R.next_row w.layout_state_of) ≡ take (R.placed w.layout_state_of) listed
     pub others : n ≡ length (drop (R.placed w.layout_state_of) listed)
 
+  -- "At a stop inside, in rows that layout wrote from fresh, the comments among the rows ahead of the next one are the first so many of the list, in
+  -- order, each once" (document 02, 12): ahead are the rows before it.
+  pub record CommentsAhead (listed : List Text) (w : Carried R) : Type 0 where
+    pub first : comments_in w.store (R.next_of w.render_state_of) ≡ take (length (comments_in w.store (R.next_of w.render_state_of))) listed
+
   pub record SameRoom (w v : Carried R) : Type 0 where
     pub store_same : length w.store ≡ length v.store
     pub marks_same : length w.marks ≡ length v.marks
@@ -40,5 +45,7 @@ module _ (R : Rules) where
     pub answered : answers R (start R store₀ marks₀) calls ≡ answers_due R store₀ marks₀ (at_first R) calls
     -- once a layout call is accepted
     pub comments : (n : ℕ) → (run R (start R store₀ marks₀) calls).left ≡ Some n → CommentsKept listed (run R (start R store₀ marks₀) calls) n
+    -- wherever rendering stopped
+    pub ahead : CommentsAhead listed (run R (start R store₀ marks₀) calls)
     -- store and marks keep their length
     pub room : SameRoom (run R (start R store₀ marks₀) calls) (start R store₀ marks₀)

@@ -17,11 +17,12 @@ module _ (R : Rules) where
 
   -- a rendering call's answer, and marks and output at exit; the store stays
   abbrev pub render_gives : RenderArgs R.RenderChoice → R.RenderState → List ℕ → List ℕ → RenderResult R.RenderState
-  render_gives q s store marks = R.render s q.to (take (R.in_use s) marks) store
+  render_gives q s store marks = R.render s q.to q.allotment (take (R.in_use s) marks) store
 
   abbrev pub render_answer : RenderArgs R.RenderChoice → R.RenderState → List ℕ → List ℕ → Answer (CallResult R)
   render_answer q s store marks =
-      answer_by (R.render_refusal q s store marks) (written (render_gives q s store marks).state (length (render_gives q s store marks).text))
+      let gives = render_gives q s store marks in
+      answer_by (R.render_refusal q s store marks) (written gives.state (length gives.text) gives.entered)
 
   abbrev pub render_marks : RenderArgs R.RenderChoice → R.RenderState → List ℕ → List ℕ → List ℕ
   render_marks q s store marks = unless (R.render_refusal q s store marks) marks (write_front (render_gives q s store marks).marks marks)
@@ -33,22 +34,22 @@ module _ (R : Rules) where
   abbrev pub layout_next : Answer (CallResult R) → R.LayoutState → R.LayoutState
   layout_next (refused r) s = s
   layout_next (accepted (laid_out t n)) s = t
-  layout_next (accepted (written t n)) s = s
+  layout_next (accepted (written t n k)) s = s
 
   abbrev pub render_next : Answer (CallResult R) → R.RenderState → R.RenderState
   render_next (refused r) s = s
   render_next (accepted (laid_out t n)) s = s
-  render_next (accepted (written t n)) s = t
+  render_next (accepted (written t n k)) s = t
 
   abbrev pub left_next : Answer (CallResult R) → Option ℕ → Option ℕ
   left_next (refused r) l = l
   left_next (accepted (laid_out t n)) l = Some n
-  left_next (accepted (written t n)) l = l
+  left_next (accepted (written t n k)) l = l
 
   abbrev pub written_of : Answer (CallResult R) → List ℕ → List ℕ
   written_of (refused r) out = []
   written_of (accepted (laid_out t n)) out = []
-  written_of (accepted (written t n)) out = take n out
+  written_of (accepted (written t n k)) out = take n out
 
   -- one call by the contracts, with a rendering call's output that held `out`
   abbrev pub entry_call : Carried R → List ℕ → Call R → Carried R

@@ -10,3 +10,4 @@ pub mod Tests
 pub mod Parts
 pub mod PartLaws
 pub mod Callers
+pub mod Allotments

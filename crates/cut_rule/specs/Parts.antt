@@ -3,20 +3,26 @@
 use Rattle.std.specs.Prelude.{Bool, true, false, List, [], ◌∷◌, ◌++◌, ℕ, zero, suc, ◌+◌, ◌-◌, max, ltb, length, take, replicate, Option}
 use Rattle.refusals.specs.Refusals.{Refusal, refuse_if, refuse_at, any, first}
 use Rattle.cut_rule.specs.Rules.{LayoutArgs, RenderTo, RenderArgs, LayoutResult, RenderResult, Rules}
+use Rattle.rows.specs.View.{view_of}
 use Rattle.renderer_rules.specs.declared.Pen.{Pen}
+use Rattle.renderer_rules.specs.Stops.{OpenRow}
+use Rattle.renderer_rules.specs.Listed.{reads_from}
 use Rattle.cut_rule.specs.States.{LayoutChoice, RenderChoice, Cursor, LayoutState, RenderState, layout_fresh, render_fresh}
-use Rattle.cut_rule.specs.Tests.{rows_in, layout_tests_in, render_tests, width_tests, chosen_tests}
+use Rattle.cut_rule.specs.Tests.{rows_in, layout_tests_in, render_tests, width_tests, chosen_tests, allotment_tests, listed_tests}
 
 -- what a piece of layout gives: the cursor behind it, and the rows that it adds, nine numbers a row
 pub record Piece : Type 0 where
   pub cursor : Cursor
   pub rows : List ℕ
 
--- what rendering rows gives
+-- What rendering rows gives, where it stops: the pen, the rows listed and the next row; marks and text; how many rows it entered.
 pub record Drawn : Type 0 where
   pub pen : Pen
+  pub listed : List OpenRow
+  pub row : ℕ
   pub marks : List ℕ
   pub text : List ℕ
+  pub entered : ℕ
 
 -- What is open here, for one source and one image. What depends on what a call chooses gets the whole choice.
 pub record RuleParts : Type 0 where
@@ -36,8 +42,8 @@ pub record RuleParts : Type 0 where
   pub wrong_row : RenderChoice → List ℕ → ℕ → ℕ → Option ℕ
   -- "largest number in the rows plus 1", for the rows of a store from one up to a stop; 0 if none has one
   pub needed : List ℕ → ℕ → ℕ → ℕ
-  -- `Renderer` with marks enough, over the rows of a store from a state's next row up to the stop
-  pub draw : RenderState → RenderTo RenderChoice → List ℕ → List ℕ → Drawn
+  -- `Renderer` with marks enough, over the rows of a store: from where a state stopped up to the stop, entering so many of them at most
+  pub draw : RenderState → RenderTo RenderChoice → ℕ → List ℕ → List ℕ → Drawn
 
 -- the piece that adds nothing
 abbrev pub still : Cursor → Piece
@@ -54,6 +60,18 @@ rule_line other rule = refuse_if (any (chosen_tests other rule)) 20 0
 -- 15
 abbrev pub width_line : RenderChoice → RenderState → Option Refusal
 width_line c s = refuse_if (any (width_tests c.width s.width)) 15 0
+
+-- 22
+abbrev pub allotment_line : ℕ → Option Refusal
+allotment_line allotment = refuse_if (any (allotment_tests allotment)) 22 0
+
+-- 23
+abbrev pub listed_line : RenderState → List ℕ → Option Refusal
+listed_line s store = refuse_if (any (listed_tests (view_of store) s)) 23 0
+
+-- "9 and 11 read from the first listed row or the next row, the earlier."
+abbrev pub read_from : RenderState → ℕ
+read_from s = reads_from s.listed s.row
 
 module _ (P : RuleParts) where
   -- "The first call lays the shebang"
@@ -105,40 +123,44 @@ module _ (P : RuleParts) where
   abbrev pub with_cleared : List ℕ → ℕ → List ℕ
   with_cleared marks n = marks ++ replicate (n - length marks) 0
 
-  -- what the rows from the state's next row up to the stop give
-  abbrev pub drawn_of : RenderState → RenderTo RenderChoice → List ℕ → List ℕ → Drawn
-  drawn_of s q marks store = P.draw s q (with_cleared marks (P.needed store s.row q.stop)) store
+  -- what so many of the rows up to the stop give, with marks for all that are read, entered or not
+  abbrev pub drawn_of : RenderState → RenderTo RenderChoice → ℕ → List ℕ → List ℕ → Drawn
+  drawn_of s q n marks store = P.draw s q n (with_cleared marks (P.needed store (read_from s) q.stop)) store
 
   -- "carried in the rendering state": the state after an accepted call holds the width that it chose
-  abbrev pub rendered_of : RenderState → RenderTo RenderChoice → List ℕ → List ℕ → RenderResult RenderState
-  rendered_of s q marks store = record {
+  abbrev pub rendered_of : RenderState → RenderTo RenderChoice → ℕ → List ℕ → List ℕ → RenderResult RenderState
+  rendered_of s q n marks store = record {
     state = record {
-      pen = (drawn_of s q marks store).pen;
-      in_use = max s.in_use (P.needed store s.row q.stop);
-      row = q.stop;
+      pen = (drawn_of s q n marks store).pen;
+      in_use = max s.in_use (P.needed store (read_from s) q.stop);
+      row = (drawn_of s q n marks store).row;
       width = q.choice.width;
       rule = q.choice.rule;
+      listed = (drawn_of s q n marks store).listed;
     };
-    marks = (drawn_of s q marks store).marks;
-    text = (drawn_of s q marks store).text;
+    marks = (drawn_of s q n marks store).marks;
+    text = (drawn_of s q n marks store).text;
+    entered = (drawn_of s q n marks store).entered;
   }
 
   -- "largest number in the rows plus 1", and the bytes of the text, for the rows that a call reads
   abbrev pub marks_for : RenderArgs RenderChoice → RenderState → List ℕ → ℕ
-  marks_for q s store = P.needed store s.row q.to.stop
+  marks_for q s store = P.needed store (read_from s) q.to.stop
 
   abbrev pub bytes_needed : RenderArgs RenderChoice → RenderState → List ℕ → List ℕ → ℕ
-  bytes_needed q s store marks = length (rendered_of s q.to (take s.in_use marks) store).text
+  bytes_needed q s store marks = length (rendered_of s q.to q.allotment (take s.in_use marks) store).text
 
-  -- "rendering 1, 3 by the same tests, then 11, 12, 9, 10", with 20 "before 1" and 15 "directly after 12", in parts: the lines before
-  -- marks are counted, 9, and 10, which alone needs the text
+  -- "rendering 1, 3 by the same tests, then 11, 12, 9, 10", with 20 "before 1", 15 "directly after 12", 22 and 23 "both after 15", in parts: the
+  -- lines before marks are counted, 9, and 10, which alone needs the text
   abbrev pub before_marks : RenderArgs RenderChoice → RenderState → List ℕ → List ℕ → List (Option Refusal)
   before_marks q s store marks =
       rule_line (P.other_rule q.to.choice.rule) q.to.choice.rule
       ∷ P.render_image_of q.to.choice
-      ∷ refuse_at (P.wrong_row q.to.choice store s.row q.to.stop) 11
+      ∷ refuse_at (P.wrong_row q.to.choice store (read_from s) q.to.stop) 11
       ∷ refuse_if (any (render_tests q s store marks)) 12 0
       ∷ width_line q.to.choice s
+      ∷ allotment_line q.allotment
+      ∷ listed_line s store
       ∷ []
 
   abbrev pub marks_line : RenderArgs RenderChoice → RenderState → List ℕ → List ℕ → List (Option Refusal)
@@ -163,7 +185,8 @@ module _ (P : RuleParts) where
     render_fresh_of = render_fresh;
     next_row = λ s. s.cursor.row;
     placed = λ s. s.cursor.placed;
-    reads_from = λ s. s.row;
+    next_of = λ s. s.row;
+    reads_from = read_from;
     in_use = λ s. s.in_use;
     layout = laid_of;
     render = rendered_of;

@@ -1,16 +1,21 @@
 -- The plain run: it "gets source, image, what store and marks held at first and the calls' arguments, and no answer".
-use Rattle.std.specs.Prelude.{◌≡◌, List, [], ◌∷◌, ℕ, ◌≤◌, ◌<◌, Option, None, Some}
-use Rattle.cut_rule.specs.Rules.{LayoutArgs, RenderTo, LayoutResult, RenderResult, Rules}
+use Rattle.std.specs.Prelude.{◌≡◌, List, [], ◌∷◌, ℕ, ◌+◌, ◌-◌, ◌≤◌, ◌<◌, min, max, Option, None, Some}
+use Rattle.cut_rule.specs.Rules.{LayoutArgs, RenderTo, RenderArgs, LayoutResult, RenderResult, Rules}
 use Rattle.refusals.specs.Refusals.{unless}
 use Rattle.refusals.specs.Answers.{Answer}
 use Rattle.cut_rule.specs.Run.{write_front, Call, layout_call, render_call, Carried, refusal, call, CallResult, answer}
+
+-- "the furthest stop and how many rows were entered", with "what else the accepted calls of a kind chose"
+pub record RenderedTo (Choice : Type 0) : Type 0 where
+  pub to : RenderTo Choice
+  pub entered : ℕ
 
 module _ (R : Rules) where
   -- "It keeps how far layout and rendering came", with "what else the accepted calls of a kind chose"; none where no call of the kind was
   -- accepted yet.
   pub record Progress : Type 0 where
     pub laid_to_of : Option (LayoutArgs R.LayoutChoice)
-    pub rendered_to : Option (RenderTo R.RenderChoice)
+    pub rendered_to : Option (RenderedTo R.RenderChoice)
 
   -- "both fresh at first"
   abbrev pub at_first : Progress
@@ -21,10 +26,24 @@ module _ (R : Rules) where
   layout_due None = record { state = R.layout_fresh_of; rows = []; left = 0 }
   layout_due (Some q) = R.layout R.layout_fresh_of q
 
-  -- "the marks in use, text and rendering state that the rows before the other stop give from fresh in one go"
-  abbrev pub render_due : List ℕ → Option (RenderTo R.RenderChoice) → RenderResult R.RenderState
-  render_due rows None = record { state = R.render_fresh_of; marks = []; text = [] }
-  render_due rows (Some p) = R.render R.render_fresh_of p [] rows
+  -- "the marks in use, text and rendering state that the rows before the other stop give from fresh in one go", of which "its one go enters that
+  -- many"
+  abbrev pub render_due : List ℕ → Option (RenderedTo R.RenderChoice) → RenderResult R.RenderState
+  render_due rows None = record { state = R.render_fresh_of; marks = []; text = []; entered = 0 }
+  render_due rows (Some p) = R.render R.render_fresh_of p.to p.entered [] rows
+
+  -- how many rows are entered before a stop in all: as many as there are rows suffice
+  abbrev pub total : List ℕ → RenderTo R.RenderChoice → ℕ
+  total rows to = (R.render R.render_fresh_of to to.stop [] rows).entered
+
+  -- "the furthest stop and how many rows were entered, to which an accepted call adds its allotment or, if fewer, the rows still to be entered
+  -- before its own stop"
+  abbrev pub further : List ℕ → Option (RenderedTo R.RenderChoice) → RenderArgs R.RenderChoice → RenderedTo R.RenderChoice
+  further rows None q = record { to = q.to; entered = min q.allotment (total rows q.to) }
+  further rows (Some p) q = record {
+    to = record { stop = max p.to.stop q.to.stop; choice = q.to.choice };
+    entered = p.entered + min q.allotment (total rows q.to - p.entered);
+  }
 
   -- the comments left, once a layout call is accepted
   abbrev pub left_due : Option (LayoutArgs R.LayoutChoice) → Option ℕ
@@ -49,10 +68,10 @@ module _ (R : Rules) where
     left = left_due f.laid_to_of;
   }
 
-  -- "An accepted layout call sets the one to its stop, closed or not, an accepted rendering call the other to its stop"
+  -- "An accepted layout call sets the one to its stop, closed or not"; an accepted rendering call moves the other on over the rows due
   abbrev pub onward : Progress → Call R → Progress
   onward f (layout_call q) = record { laid_to_of = Some q; rendered_to = f.rendered_to }
-  onward f (render_call q) = record { laid_to_of = f.laid_to_of; rendered_to = Some q.to }
+  onward f (render_call q) = record { laid_to_of = f.laid_to_of; rendered_to = Some (further (laid_due f).rows f.rendered_to q) }
 
   -- "the table below, read on what is due before a call, says whether it is accepted"; "a refused one neither"
   abbrev pub plain_call : List ℕ → List ℕ → Progress → Call R → Progress
@@ -70,7 +89,7 @@ module _ (R : Rules) where
   abbrev pub IsAccepted : Carried R → Call R → Type 0
   IsAccepted w c = refusal R w c ≡ None
 
-  -- each row that a call reads, from its next row to its stop, is laid out
+  -- each row that a call reads, from its first listed row or its next row to its stop, is laid out
   abbrev pub ReadsLaid : Carried R → Call R → Type 0
   ReadsLaid w (layout_call q) = Unit {0}
   ReadsLaid w (render_call q) = (k : ℕ) → R.reads_from w.render_state_of ≤ k → k < q.to.stop → k < R.next_row w.layout_state_of

@@ -16,9 +16,10 @@ pub record RenderTo (Choice : Type 0) : Type 0 where
   pub stop : ℕ
   pub choice : Choice
 
--- `room` is the length of the output that a rendering call is lent.
+-- "A rendering call is given a number of rows it may enter" (document 02, 12): its allotment. `room` is the length of the output that it is lent.
 pub record RenderArgs (Choice : Type 0) : Type 0 where
   pub to : RenderTo Choice
+  pub allotment : ℕ
   pub room : ℕ
 
 -- What layout gives: the new state, the rows that it adds (nine numbers a row), "the number of comments left".
@@ -27,11 +28,12 @@ pub record LayoutResult (State : Type 0) : Type 0 where
   pub rows : List ℕ
   pub left : ℕ
 
--- What rendering gives: the new state, the marks then in use, the text.
+-- What rendering gives: the new state, the marks then in use, the text, and how many rows it entered.
 pub record RenderResult (State : Type 0) : Type 0 where
   pub state : State
   pub marks : List ℕ
   pub text : List ℕ
+  pub entered : ℕ
 
 pub record Rules : Type 1 where
   pub LayoutState : Type 0
@@ -44,13 +46,15 @@ pub record Rules : Type 1 where
   -- layout's next row, and the comments placed
   pub next_row : LayoutState → ℕ
   pub placed : LayoutState → ℕ
-  -- the row that a rendering call with this state reads from: "it reads from its next row on"
+  -- "the first still to be entered", of rendering
+  pub next_of : RenderState → ℕ
+  -- the row that a rendering call with this state reads from: "the first listed row or the next row, the earlier"
   pub reads_from : RenderState → ℕ
   pub in_use : RenderState → ℕ
   -- layout from a state to the stop
   pub layout : LayoutState → LayoutArgs LayoutChoice → LayoutResult LayoutState
-  -- rendering from a state to the stop, with the marks in use: of a store, the rows from where the state reads up to there
-  pub render : RenderState → RenderTo RenderChoice → List ℕ → List ℕ → RenderResult RenderState
+  -- rendering from a state towards the stop, by an allotment, with the marks in use: of a store, the rows from where the state reads up to the stop
+  pub render : RenderState → RenderTo RenderChoice → ℕ → List ℕ → List ℕ → RenderResult RenderState
   -- the table: the refusal of a call that meets this state, store and marks, or none
   pub layout_refusal : LayoutArgs LayoutChoice → LayoutState → List ℕ → Option Refusal
   pub render_refusal : RenderArgs RenderChoice → RenderState → List ℕ → List ℕ → Option Refusal

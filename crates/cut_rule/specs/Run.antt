@@ -39,7 +39,7 @@ module _ (R : Rules) where
 
   -- what an accepted rendering call gives
   abbrev pub rendered : Carried → RenderArgs R.RenderChoice → RenderResult R.RenderState
-  rendered w q = R.render w.render_state_of q.to (take (R.in_use w.render_state_of) w.marks) w.store
+  rendered w q = R.render w.render_state_of q.to q.allotment (take (R.in_use w.render_state_of) w.marks) w.store
 
   -- what an accepted call leaves
   abbrev pub accepted : Carried → Call → Carried
@@ -69,14 +69,15 @@ module _ (R : Rules) where
   run w [] = w
   run w (c ∷ cs) = run (call w c) cs
 
-  -- What an accepted call gives: "the new state with the number of comments left"; "the new state and the bytes written".
+  -- What an accepted call gives: "the new state with the number of comments left"; "the new state and the bytes written", with "the count
+  -- returned".
   pub data CallResult : Type 0 where
     laid_out : R.LayoutState → ℕ → CallResult
-    written : R.RenderState → ℕ → CallResult
+    written : R.RenderState → ℕ → ℕ → CallResult
 
   abbrev pub call_result : Carried → Call → CallResult
   call_result w (layout_call q) = laid_out (R.layout w.layout_state_of q).state (R.layout w.layout_state_of q).left
-  call_result w (render_call q) = written (rendered w q).state (length (rendered w q).text)
+  call_result w (render_call q) = written (rendered w q).state (length (rendered w q).text) (rendered w q).entered
 
   -- what a call answers
   abbrev pub answer : Carried → Call → Answer CallResult

@@ -1,9 +1,11 @@
--- Refusals 12, 15 and 20, in groups: a test more goes into its group, a group more into the list.
+-- Refusals 12, 15, 20, 22 and 23, in groups: a test more goes into its group, a group more into the list.
 use Rattle.std.specs.Prelude.{Bool, false, not, ◌&&◌, ◌||◌, List, [], ◌∷◌, ◌++◌, ℕ, ◌/◌, ltb, eqb, length, take}
 use Rattle.rows.specs.Places.{PLACES}
 use Rattle.rows.specs.Limits.{MAX_ROWS, MAX_NUMBER}
+use Rattle.rows.specs.View.{View}
 use Rattle.renderer_rules.specs.Limits.{MAX_INDENT, MAX_COLUMN}
-use Rattle.cut_rule.specs.Limits.{MIN_WIDTH, MAX_WIDTH, MIN_RULE, MAX_RULE}
+use Rattle.renderer_rules.specs.Listed.{listed_those, can_close_all}
+use Rattle.cut_rule.specs.Limits.{MIN_WIDTH, MAX_WIDTH, MIN_RULE, MAX_RULE, MAX_LISTED}
 use Rattle.cut_rule.specs.Rules.{LayoutArgs, RenderArgs}
 use Rattle.renderer_rules.specs.declared.Pen.{Pen}
 use Rattle.cut_rule.specs.States.{LayoutChoice, RenderChoice, LayoutState, RenderState, NEW_MODE}
@@ -75,7 +77,7 @@ layout_tests_in declarations comments size rows q s =
 abbrev pub row_tests : ℕ → ℕ → ℕ → List Bool
 row_tests rows stop row = ltb rows row ∷ ltb stop row ∷ ltb MAX_ROWS row ∷ []
 
--- "`indent` or `next_indent` over 64; column over 72,057,594,037,927,936"
+-- "`indent` or `next_indent`" over 384; "column over 72,057,594,037,927,936"
 abbrev pub pen_tests : Pen → List Bool
 pen_tests z = ltb MAX_INDENT z.indent ∷ ltb MAX_INDENT z.next_indent ∷ ltb MAX_COLUMN z.column.0 ∷ []
 
@@ -96,3 +98,15 @@ render_tests q s store marks =
 -- 15: "a chosen width outside 40 to 200, or one that differs from a carried width other than 0"
 abbrev pub width_tests : ℕ → ℕ → List Bool
 width_tests width carried = ltb width MIN_WIDTH ∷ ltb MAX_WIDTH width ∷ differs width carried ∷ []
+
+-- 22: "an allotment of 0"
+abbrev pub allotment_tests : ℕ → List Bool
+allotment_tests allotment = eqb allotment 0 ∷ []
+
+-- 23: more than 256; "listed rows other than those, or whose closing, innermost first and with no further row, would take `indent` under 0"
+abbrev pub listed_tests : View → RenderState → List Bool
+listed_tests v s =
+    ltb MAX_LISTED (length s.listed)
+    ∷ not (listed_those v s.listed s.row)
+    ∷ not (can_close_all v s.listed s.pen)
+    ∷ []

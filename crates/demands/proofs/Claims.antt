@@ -10,6 +10,7 @@ use Rattle.demands.proofs.Archive.{archive_1}
 use Rattle.readback.proofs.Claimed.{verdict_holds}
 use Rattle.demands.proofs.ReadsBack.{reads_back_1}
 use Rattle.renderer_rules.proofs.Call.{call_as_rust}
+use Rattle.listed_rows.proofs.Numbers.{numbers_rows}
 use Rattle.renderer_rules.proofs.Checked.{fault_of_part}
 use Rattle.renderer_rules.proofs.Holds.{writes_pieces, no_slash_around}
 use Rattle.layout_facts.proofs.Binop.{binop_as_rust}
@@ -18,6 +19,7 @@ use Rattle.layout_facts.proofs.Limits.{few_rows, words_due}
 use Rattle.layout_facts.proofs.Tokens.{says_the_program, fmt_parsed_says_the_program, slash_words}
 use Rattle.tree.proofs.Ordered.{strict_is_in_order}
 use Rattle.whole_run.proofs.Demands.{rules_cut, entries_agree, due_is_fmt_parsed, laid_within_limits}
+use Rattle.whole_run.proofs.Allotments.{allotments_join}
 use Rattle.whole_run.proofs.Edges.{edges_hold, widths_hold, empty_line_holds}
 use Rattle.whole_run.proofs.File.{old_mode_is_fmt_parsed, new_mode_leaves_none}
 use Rattle.whole_run.proofs.FileLimits.{file_text_limited, file_column_limited}
@@ -34,9 +36,13 @@ use Rattle.demands.proofs.Demand3 as three
 use Rattle.demands.proofs.Demand3.{calls_hold_all, closing_leaves_none}
 use Rattle.demands.proofs.Generator.{generator_1, generator_lists}
 use Rattle.demands.proofs.Saves.{saves_1}
-use Rattle.demands.proofs.Linked.{linked_promises, linked_1, linked_2, linked_3, linked_calls_hold_all, linked_lists, linked_singles}
+use Rattle.demands.proofs.Linked.{linked_promises, linked_1, linked_2, linked_lists, linked_singles}
+use Rattle.demands.proofs.LinkedCalls.{linked_3, linked_calls_hold_all}
 use Rattle.demands.proofs.Text.{file_is_the_program, file_holds, new_mode_file_holds_all, linked_file_is_the_program}
 use Rattle.demands.proofs.Text.{reply_is_the_program, calls_are_the_program, linked_calls_are_the_program, calls_hold}
+use Rattle.demands.proofs.Text.{calls_kept_inside, linked_calls_kept_inside, comments_held_so_far}
+use Rattle.stop_facts.proofs.HandedOn.{handed_on, handed_along, handed_away, handed_from}
+use Rattle.stop_facts.proofs.AtBound.{bound_is_passed}
 use Rattle.demands.proofs.Text.{closed_calls_hold_all, batch_is_the_programs, linked_batch_is_the_programs}
 
 pub claims : Claims
@@ -66,6 +72,8 @@ claims = record {
     new_mode_file_holds_all = new_mode_file_holds_all;
     reply_is_the_program = reply_is_the_program;
     calls_are_the_program = calls_are_the_program;
+    calls_kept_inside = calls_kept_inside;
+    comments_held_so_far = comments_held_so_far;
     calls_hold = calls_hold;
     closed_calls_hold_all = closed_calls_hold_all;
     batch_is_the_programs = batch_is_the_programs;
@@ -108,6 +116,13 @@ claims = record {
     entries_agree = entries_agree;
     verdict_holds = verdict_holds;
     reads_back_1 = reads_back_1;
+    allotments_join = allotments_join;
+    numbers_rows = numbers_rows;
+    handed_on = handed_on;
+    handed_along = handed_along;
+    handed_away = handed_away;
+    handed_from = handed_from;
+    bound_is_passed = bound_is_passed;
   };
   linked = record {
     linked_promises = linked_promises;
@@ -119,6 +134,7 @@ claims = record {
     linked_singles = linked_singles;
     linked_file_is_the_program = linked_file_is_the_program;
     linked_calls_are_the_program = linked_calls_are_the_program;
+    linked_calls_kept_inside = linked_calls_kept_inside;
     linked_batch_is_the_programs = linked_batch_is_the_programs;
   };
 }

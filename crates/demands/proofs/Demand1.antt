@@ -21,6 +21,7 @@ use Rattle.cut_rule.specs.Rules as rules
 use Rattle.cut_rule.specs.States as states
 use Rattle.cut_rule.specs.Tests as tests
 use Rattle.cut_rule.specs.Parts as cut
+use Rattle.rows.specs.View.{view_of}
 use Rattle.text.specs.Utf8.{prefix, well_formed, ill_formed}
 use Rattle.widths.specs.Rules.{SUPPLIED}
 use Rattle.whole_run.specs.Parts.{other_rule, parts_of, formed_line, render_image}
@@ -151,14 +152,20 @@ module _ (s b : List ℕ) where
         (
           image_under q.to.choice.rule,
           (
-            under_at render_numbers ((parts_of s b).wrong_row q.to.choice store z.row q.to.stop) 11 refl,
+            under_at render_numbers ((parts_of s b).wrong_row q.to.choice store (cut.read_from z) q.to.stop) 11 refl,
             (
               under_if render_numbers (any (tests.render_tests q z store marks)) 12 0 refl,
               (
                 under_if render_numbers (any (tests.width_tests q.to.choice.width z.width)) 15 0 refl,
                 (
-                  under_if render_numbers (ltb (length marks) needed) 9 needed refl,
-                  (under_if render_numbers (ltb q.room bytes) 10 bytes refl, tt),
+                  under_if render_numbers (any (tests.allotment_tests q.allotment)) 22 0 refl,
+                  (
+                    under_if render_numbers (any (tests.listed_tests (view_of store) z)) 23 0 refl,
+                    (
+                      under_if render_numbers (ltb (length marks) needed) 9 needed refl,
+                      (under_if render_numbers (ltb q.room bytes) 10 bytes refl, tt),
+                    ),
+                  ),
                 ),
               ),
             ),
@@ -253,12 +260,16 @@ layout_call s b state args store r store2 p =
     (λ r f. p.store_left_of ∙ left_same _ r store _ f)
 
 render_call : RenderAnswered
-render_call s b state args store marks out r store2 marks2 out2 p =
-    answered
-    (as_answer _ r ∙ ap refusal_of p.answer ∙ by_table ((rules_of s b).render_refusal (render.to_args args (length out))
-    (render.to_state state) store marks) _)
-    (render_under s b (render.to_args args (length out)) (render.to_state state) store marks)
-    (λ r f. (p.store_left_of, p.marks_left_of ∙ left_same _ r marks _ f, p.output_left_of ∙ left_same _ r out _ f))
+render_call s b state args store marks out listed r store2 marks2 out2 listed2 p =
+    let q = render.to_args args (length out) in
+    let z = render.to_state state listed in
+    answered (as_answer _ r ∙ ap refusal_of p.answer ∙ by_table ((rules_of s b).render_refusal q z store marks) _) (render_under s b q z store marks)
+    (λ r f. (
+      p.store_left_of,
+      p.marks_left_of ∙ left_same _ r marks _ f,
+      p.output_left_of ∙ left_same _ r out _ f,
+      p.list_left_of ∙ left_same _ r listed _ f,
+    ))
 
 format_file : FileAnswered
 format_file s b c out r out2 p =

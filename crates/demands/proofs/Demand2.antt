@@ -1,10 +1,11 @@
 -- The calls answer by the rules, and the rules from fresh are `fmt_parsed` and `Renderer`.
 -- Assumes nothing.
-use mathlib.Core.Path.{◌≡◌, refl, ap, ap₂, ◌∙◌}
+use mathlib.Core.Path.{◌≡◌, refl, ap, ◌∙◌}
 use mathlib.Core.Bool.{true, false}
 use Rattle.std.specs.Prelude.{Option, Ok}
-use mathlib.Core.List.{List, ◌∷◌}
+use mathlib.Core.List.{List, [], ◌∷◌}
 use Prim.Native.Nat.{ℕ}
+use native.Mathlib.Omega.{arith}
 use lib.ListN.{length}
 use Rattle.image.specs.Read.{read_earlier}
 use Rattle.image.proofs.Earlier.{none_either}
@@ -12,27 +13,31 @@ use Rattle.acts.specs.Act.{Out}
 use Rattle.refusals.specs.Refusals.{Refusal, unless, refuse_if, any}
 use Rattle.refusals.proofs.Groups.{passes_line, passes_others, not_if}
 use Rattle.refusals.proofs.Answers.{accepted_by}
-use Rattle.cut_rule.specs.Rules.{LayoutArgs as CutArgs, RenderArgs, LayoutResult, RenderResult}
+use Rattle.rows.specs.Rows.{rows}
+use Rattle.cut_rule.specs.Rules.{LayoutArgs as CutArgs, RenderTo, LayoutResult}
 use Rattle.cut_rule.specs.Run.{write_front}
-use Rattle.cut_rule.specs.Entries.{render_gives}
 use Rattle.cut_rule.specs.States as states
 use Rattle.cut_rule.specs.Parts as cut
+use Rattle.cut_rule.specs.Parts.{Drawn, drawn_of}
 use Rattle.cut_rule.proofs.Table.{layout_told}
 use Rattle.cut_rule.proofs.Answers.{LaidBy, laid_by, written_by}
 use Rattle.whole_run.specs.Parts.{other_rule, parts_of}
 use Rattle.whole_run.specs.Demands.{rules_of, Gives, laid_to}
-use Rattle.whole_run.specs.Built.{FileChoice, declared, rows_due, drawn_due}
+use Rattle.whole_run.specs.Built.{FileChoice, declared, laid as document, rows_due, drawn_due}
 use Rattle.whole_run.specs.File.{file_refusal, FileResult, file_result}
 use Rattle.whole_run.proofs.Demands.{due_is_fmt_parsed, laid_within_limits}
 use Rattle.whole_run.proofs.Foot.{closing_places_all}
 use Rattle.whole_run.proofs.Reference.{reference_holds}
-use Rattle.whole_run.proofs.File.{laid_due, rowed, rendered_due_lem, old_mode_is_fmt_parsed, new_mode_leaves_none}
+use Rattle.whole_run.proofs.File.{laid_due, old_mode_is_fmt_parsed, new_mode_leaves_none}
 use Rattle.layout_call.specs.declared.LayoutState.{LayoutState}
 use Rattle.layout_call.specs.declared.LayoutArgs.{LayoutArgs}
 use Rattle.layout_call.specs.Calls as layout
 use Rattle.layout_call.specs.Whole.{LayoutCalled}
+use Rattle.render_call.specs.declared.RenderArgs.{RenderArgs}
 use Rattle.render_call.specs.Calls as render
 use Rattle.demands.specs.Fresh.{fresh_layout, fresh_render}
+use Rattle.demands.proofs.Fresh.{fresh_state}
+use Rattle.demands.proofs.Allotted.{all_drawn}
 use Rattle.demands.specs.Demand2.{LaidOutAs, AtStopDue, ClosedDue, ClosedKeepingDue, RenderedDue, FileDue, Demand2}
 
 -- ---- layout
@@ -90,32 +95,37 @@ closed_keeping archive s b store rule t left store2 p =
 
 -- ---- rendering
 rendered : RenderedDue
-rendered archive s b store mode rule t left store2 p width marks out u n store3 marks2 out2 q =
-    let R = rules_of s b in
+rendered archive s b store mode rule t left store2 p width allotment enough marks out listed u n count store3 marks2 out2 listed2 q =
     let c : FileChoice = record { width = width; mode = mode; rule = rule } in
-    let to : ℕ → RenderArgs states.RenderChoice = λ row. render.to_args (record { stop = row; width = record { 0 = width }; rule = rule }) (length out) in
-    let z = render.to_state fresh_render in
+    let args : RenderArgs = record { stop = t.row; allotment = allotment; width = record { 0 = width }; rule = rule } in
+    let to : ℕ → RenderTo states.RenderChoice = λ row. record { stop = row; choice = record { width = width; rule = rule } } in
+    let z = render.to_state fresh_render listed in
     let all : LayoutArgs = record { stop = length (declared s b); close = true; mode = mode; rule = rule; archive = archive } in
     let before = laid s b store all t left store2 p in
     let row : t.row ≡ rows_due s b c =
     ap (λ (x : states.LayoutState). x.cursor.row) before.state ∙ ap (λ (l : LayoutResult states.LayoutState). l.state.cursor.row) (laid_due s b c) in
-    let left_store : store2 ≡ rowed s b c store =
+    let left_store : store2 ≡ write_front (rows (document s b c) 0) store =
     p.store_left_of
     ∙ ap (λ (x : Option Refusal). unless x store (write_front (given s b store all t left store2 p).rows store)) before.passes
     ∙ ap (λ (l : LayoutResult states.LayoutState). write_front l.rows store) (laid_due s b c) in
-    let a = written_by R (R.render_refusal (to t.row) z store2 marks) (render.to_state u) n.0 _ _ q.answer in
-    let gives = ap₂ (λ (i : ℕ) (l : List ℕ). render_gives R (to i) z l marks) row left_store ∙ rendered_due_lem s b c store marks out in
-    let before_gives = render_gives R (to t.row) z store2 marks in
+    let read = none_either archive s b (layout_told (parts_of s b) (layout.to_args all) (layout.to_state fresh_layout) store before.passes).image in
+    let a = written_by (rules_of s b) ((rules_of s b).render_refusal (render.to_args args (length out)) z store2 marks) (render.to_state u listed2) n.0 count
+    _ _ _ q.answer in
+    let gives =
+    (λ i. drawn_of (parts_of s b) (fresh_state listed i) (to (row i)) allotment [] (left_store i))
+    ∙ all_drawn s b c store read allotment (omega (arith, row)) in
+    let was = drawn_of (parts_of s b) z (to t.row) allotment [] store2 in
     record {
       marks_due_of =
           q.marks_left_of
-          ∙ ap (λ (x : Option Refusal). unless x marks (write_front before_gives.marks marks)) a.passes
-          ∙ ap (λ (l : RenderResult states.RenderState). write_front l.marks marks) gives;
-      bytes_due = a.bytes ∙ ap (λ (l : RenderResult states.RenderState). length l.text) gives;
+          ∙ ap (λ (x : Option Refusal). unless x marks (write_front was.marks marks)) a.passes
+          ∙ ap (λ (d : Drawn). write_front d.marks marks) gives;
+      bytes_due = a.bytes ∙ ap (λ (d : Drawn). length d.text) gives;
       text_due =
           q.output_left_of
-          ∙ ap (λ (x : Option Refusal). unless x out (write_front before_gives.text out)) a.passes
-          ∙ ap (λ (l : RenderResult states.RenderState). write_front l.text out) gives;
+          ∙ ap (λ (x : Option Refusal). unless x out (write_front was.text out)) a.passes
+          ∙ ap (λ (d : Drawn). write_front d.text out) gives;
+      count_due = a.entered ∙ ap (λ (d : Drawn). d.entered) gives;
     }
 
 -- ---- a whole file

@@ -9,13 +9,15 @@ use Rattle.image.specs.Read.{read_earlier}
 use Rattle.image.proofs.Earlier.{none_either}
 use Rattle.cut_rule.specs.Run.{Call, Carried, CallResult, layout_call, render_call, start, call, run, answer, answers}
 use Rattle.cut_rule.specs.Entries.{entry_call}
-use Rattle.cut_rule.specs.CutRule.{CommentsKept, CutRule}
+use Rattle.cut_rule.specs.CutRule.{CommentsKept, CommentsAhead, CutRule}
 use Rattle.cut_rule.specs.Callers.{after_all, AllKept}
 use Rattle.cut_rule.proofs.Entries.{entries_are_calls}
 use Rattle.cut_rule.proofs.Answers.{laid_by, all_held}
 use mathlib.Core.Bool.{false}
-use Rattle.std.specs.Prelude.{Result, Ok, Err}
+use Rattle.std.specs.Prelude.{None, Result, Ok, Err}
 use Rattle.refusals.specs.Refusals.{any, refuse_if}
+use Rattle.refusals.specs.Reasons.{refusal}
+use Rattle.refusals.proofs.Answers.{refused_by}
 use Rattle.refusals.proofs.Groups.{passes_left, passes_line, passes_others, not_if}
 use Rattle.cut_rule.specs.States as states
 use Rattle.cut_rule.specs.Parts.{rule_line, layout_tests, before_rows, rows_line, laid_of}
@@ -33,6 +35,8 @@ use Rattle.render_call.specs.declared.RenderArgs.{RenderArgs}
 use Rattle.render_call.specs.declared.Written.{Written}
 use Rattle.render_call.specs.Calls as render
 use Rattle.render_call.specs.Whole.{RenderCalled}
+use Rattle.demands.proofs.Demand1.{left_same}
+use Rattle.demands.proofs.Fresh.{fresh_state}
 use Rattle.demands.specs.Demand3.{Caller, fresh_caller, Made, laid, rendered, Promised, after_made, call_made}
 use Rattle.demands.specs.Demand3.{answer_made, held, HeldAsDue, Demand3, CallsHoldAll, ClosingLeavesNone}
 
@@ -46,23 +50,26 @@ module _ (s b : List ℕ) where
   abbrev with_text : Carried (rules_of s b) → List ℕ → Carried (rules_of s b)
   with_text v t = record { store = v.store; marks = v.marks; layout_state_of = v.layout_state_of; render_state_of = v.render_state_of; text = t; left = v.left }
 
-  render_held : (w : Caller) (args : RenderArgs) (out : List ℕ) (r : Result Written Refused) (store2 marks2 out2 : List ℕ)
-      → RenderCalled s b w.render_state_of args w.store w.marks out r store2 marks2 out2
-      → held s b (after_made w (rendered args out r store2 marks2 out2))
+  -- a refused call leaves the list as it was
+  render_held : (w : Caller) (args : RenderArgs) (out : List ℕ) (r : Result Written Refused) (store2 marks2 out2 listed2 : List ℕ)
+      → RenderCalled s b (render.to_state w.render_state_of w.listed) args w.store w.marks out w.listed r store2 marks2 out2 listed2
+      → held s b (after_made w (rendered args out r store2 marks2 out2 listed2))
       ≡ entry_call (rules_of s b) (held s b w) out (render_call (render.to_args args (length out)))
-  render_held w args out (Ok t) store2 marks2 out2 p = rw (sym p.answer, p.store_left_of, p.marks_left_of, p.output_left_of)
-  render_held w args out (Err q) store2 marks2 out2 p =
-      ap (with_text (held s b (after_made w (rendered args out (Err q) store2 marks2 out2)))) (sym (append-nil w.text))
+  render_held w args out (Ok t) store2 marks2 out2 listed2 p = rw (sym p.answer, p.store_left_of, p.marks_left_of, p.output_left_of)
+  render_held w args out (Err q) store2 marks2 out2 listed2 p =
+      let same : listed2 ≡ w.listed = p.list_left_of ∙ left_same _ (refusal q) w.listed _ (refused_by _ _ (refusal q) p.answer) in
+      ap (λ (l : List ℕ). held s b (after_made w (rendered args out (Err q) store2 marks2 out2 l))) same
+      ∙ ap (with_text (held s b (after_made w (rendered args out (Err q) store2 marks2 out2 w.listed)))) (sym (append-nil w.text))
       ∙ rw (sym p.answer, p.store_left_of, p.marks_left_of)
 
-  one_held : (w : Caller) (m : Made) → Promised s b w m → held s b (after_made w m) ≡ call (rules_of s b) (held s b w) (call_made s b m)
+  pub one_held : (w : Caller) (m : Made) → Promised s b w m → held s b (after_made w m) ≡ call (rules_of s b) (held s b w) (call_made s b m)
   one_held w (laid args r store2) p = layout_held w args r store2 p ∙ entries_are_calls (rules_of s b) (held s b w) [] (layout_call (layout.to_args args))
-  one_held w (rendered args out r store2 marks2 out2) p =
-      render_held w args out r store2 marks2 out2 p ∙ entries_are_calls (rules_of s b) (held s b w) out (render_call (render.to_args args (length out)))
+  one_held w (rendered args out r store2 marks2 out2 listed2) p =
+      render_held w args out r store2 marks2 out2 listed2 p ∙ entries_are_calls (rules_of s b) (held s b w) out (render_call (render.to_args args (length out)))
 
   one_answer : (w : Caller) (m : Made) → Promised s b w m → answer_made s b m ≡ answer (rules_of s b) (held s b w) (call_made s b m)
   one_answer w (laid args r store2) p = p.answer
-  one_answer w (rendered args out r store2 marks2 out2) p = p.answer
+  one_answer w (rendered args out r store2 marks2 out2 listed2) p = p.answer
 
   -- the list
   all_answers : (w : Caller) (ms : List Made) → AllKept after_made (Promised s b) w ms
@@ -82,28 +89,46 @@ held_as_due s b store₀ marks₀ calls v e rule = record {
       λ n f.
       subst (λ (x : Carried (rules_of s b)). CommentsKept (rules_of s b) (listed s b) x n) (sym e)
       (rule.comments n (ap (λ (x : Carried (rules_of s b)). x.left) (sym e) ∙ f));
+  ahead = subst (λ (x : Carried (rules_of s b)). CommentsAhead (rules_of s b) (listed s b) x) (sym e) rule.ahead;
 }
 
+-- a fresh caller is where the run starts
+fresh_held : (s b store₀ marks₀ listed₀ : List ℕ) → held s b (fresh_caller store₀ marks₀ listed₀) ≡ start (rules_of s b) store₀ marks₀
+fresh_held s b store₀ marks₀ listed₀ =
+    ap (λ (z : states.RenderState). record {
+      store = store₀;
+      marks = marks₀;
+      layout_state_of = states.layout_fresh;
+      render_state_of = z;
+      text = [];
+      left = None;
+    })
+    (fresh_state listed₀)
+
 -- calls that keep their promises make the run of the rules
-pub made_run : (s b store₀ marks₀ : List ℕ) (made : List Made) → AllKept after_made (Promised s b) (fresh_caller store₀ marks₀) made
-    → held s b (after_all after_made (fresh_caller store₀ marks₀) made) ≡ run (rules_of s b) (start (rules_of s b) store₀ marks₀)
+pub made_run : (s b store₀ marks₀ listed₀ : List ℕ) (made : List Made) → AllKept after_made (Promised s b) (fresh_caller store₀ marks₀ listed₀) made
+    → held s b (after_all after_made (fresh_caller store₀ marks₀ listed₀) made) ≡ run (rules_of s b) (start (rules_of s b) store₀ marks₀)
     (map (call_made s b) made)
-made_run s b store₀ marks₀ made p =
-    all_held (rules_of s b) after_made (Promised s b) (held s b) (call_made s b) (one_held s b) (fresh_caller store₀ marks₀) made p
+made_run s b store₀ marks₀ listed₀ made p =
+    all_held (rules_of s b) after_made (Promised s b) (held s b) (call_made s b) (one_held s b) (fresh_caller store₀ marks₀ listed₀) made p
+    ∙ ap (λ (v : Carried (rules_of s b)). run (rules_of s b) v (map (call_made s b) made)) (fresh_held s b store₀ marks₀ listed₀)
 
 pub demand_3 : Demand3
-demand_3 s b store₀ marks₀ made p h =
-    let w = fresh_caller store₀ marks₀ in
+demand_3 s b store₀ marks₀ listed₀ made p h =
+    let w = fresh_caller store₀ marks₀ listed₀ in
     let rule = rules_cut (read_earlier s b) s b store₀ marks₀ (map (call_made s b) made) h in
     record {
       as_due =
-          held_as_due s b store₀ marks₀ (map (call_made s b) made) _ (made_run s b store₀ marks₀ made p) rule;
-      answered = all_answers s b w made p ∙ rule.answered;
+          held_as_due s b store₀ marks₀ (map (call_made s b) made) _ (made_run s b store₀ marks₀ listed₀ made p) rule;
+      answered =
+          all_answers s b w made p
+          ∙ ap (λ (v : Carried (rules_of s b)). answers (rules_of s b) v (map (call_made s b) made)) (fresh_held s b store₀ marks₀ listed₀)
+          ∙ rule.answered;
     }
 
 pub calls_hold_all : CallsHoldAll
-calls_hold_all s b store₀ marks₀ made p closed new =
-    let e = made_run s b store₀ marks₀ made p in
+calls_hold_all s b store₀ marks₀ listed₀ made p closed new =
+    let e = made_run s b store₀ marks₀ listed₀ made p in
     subst (HoldsAll s b) (sym e)
     (closed_holds_all s b store₀ marks₀ (map (call_made s b) made)
     (ap (λ (v : Carried (rules_of s b)). v.layout_state_of.closed) (sym e) ∙ closed)

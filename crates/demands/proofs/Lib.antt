@@ -1,3 +1,6 @@
+pub mod Fresh
+pub mod Listed
+pub mod Allotted
 pub mod Demand1
 pub mod Demand2
 pub mod Demand3
@@ -6,5 +9,6 @@ pub mod Saves
 pub mod Archive
 pub mod ReadsBack
 pub mod Linked
+pub mod LinkedCalls
 pub mod Text
 pub mod Claims

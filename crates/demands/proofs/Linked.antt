@@ -1,40 +1,44 @@
 -- The numbers that a linked function leaves tell the answer of the function in Rattle, and so what is proved of that one holds of the linked one.
 -- Assumes nothing.
-use mathlib.Core.Path.{◌≡◌, refl, sym, ap, ap₂, subst, subst₂, ◌∙◌}
+use mathlib.Core.Path.{◌≡◌, refl, sym, ap, subst, ◌∙◌}
 use mathlib.Core.Bool.{Bool, true, false, cond, ◌&&◌, ◌||◌}
 use Rattle.std.specs.Prelude.{Option, None, Some, Result, Ok, Err}
-use mathlib.Core.List.{List, [], ◌∷◌, ◌++◌, map, append-nil}
-use Prim.Native.Nat.{ℕ, suc, ◌≤◌}
+use mathlib.Core.List.{List, [], ◌∷◌, ◌++◌, map}
+use Prim.Native.Nat.{ℕ, suc, ◌-◌, ◌≤◌}
 use native.Mathlib.Omega.{arith}
 use lib.Dec.{eqb}
-use lib.ListN.{length, get_or, take, drop}
-use borrow.Author.Tests.{eqb-true}
-use Rattle.refusals.specs.Refusals.{Refusal, any, is_one_of}
+use lib.ListN.{length, get_or, take, drop, replicate, length-map}
+use lib.Seq.{take-take}
+use borrow.Author.Tests.{eqb-true, eq-eqb}
+use Rattle.refusals.specs.Refusals.{Refusal, any, is_one_of, unless}
 use Rattle.refusals.specs.Answers.{Answer, refused, accepted, answer_by, numbers_of}
 use Rattle.refusals.proofs.Answers.{told_zero, told_refusal}
 use Rattle.refusals.specs.Reasons.{number_of, answer_of}
 use Rattle.refusals.specs.declared.Refused.{Refused}
 use Rattle.laws.proofs.Booleans.{false_true, and_left, and_right}
+use Rattle.rows.specs.Limits.{MAX_DEPTH}
+use Rattle.renderer_rules.specs.Stops.{OpenRow}
+use Rattle.listed_rows.specs.Numbers.{row_number}
 use Rattle.image.specs.Read.{Read, got, bad, Image, read_all, read_refusal, reader_numbers, document_of, outcome}
 use Rattle.image.specs.declared.Document.{Document}
-use Rattle.cut_rule.specs.Run.{Call, CallResult, laid_out, written, Carried, start, run}
-use Rattle.cut_rule.specs.Plain.{at_first, answers_due, AllReadLaid}
+use Rattle.cut_rule.specs.Rules.{RenderArgs, RenderResult}
+use Rattle.cut_rule.specs.Run.{write_front, CallResult, laid_out, written}
+use Rattle.cut_rule.specs.Entries.{render_gives}
 use Rattle.cut_rule.specs.Parts.{rule_line}
 use Rattle.cut_rule.specs.Tests.{chosen_tests}
 use Rattle.rows.specs.declared.units.Columns.{Columns}
 use Rattle.widths.specs.Rules.{columns_by}
-use Rattle.cut_rule.specs.Callers.{after_all, AllKept}
 use Rattle.cut_rule.specs.States as states
 use Rattle.cut_rule.specs.States.{NEW_MODE}
 use Rattle.whole_run.specs.Built.{declared}
 use Rattle.whole_run.specs.Demands.{rules_of}
 use Rattle.whole_run.specs.File.{file_refusal, FileResult, file_result}
-use Rattle.whole_run.specs.Foot.{HoldsAll}
 use Rattle.layout_call.specs.declared.Laid.{Laid}
 use Rattle.layout_call.specs.Calls as layout
 use Rattle.layout_call.specs.Whole.{LayoutCalled}
 use Rattle.render_call.specs.declared.Written.{Written}
 use Rattle.render_call.specs.Calls as render
+use Rattle.render_call.specs.Calls.{listed_of}
 use Rattle.render_call.specs.Whole.{RenderCalled}
 use Rattle.file.specs.declared.Text.{Text}
 use Rattle.file.specs.Whole.{to_choice, formatted_answer, Formats}
@@ -46,28 +50,27 @@ use Rattle.batch.specs.Batch.{batch_refusal, BatchResult, batch_result}
 use Rattle.batch.specs.Whole.{batched_answer, Batches}
 use Rattle.batch.specs.declared.Batch.{Batch}
 use Rattle.batch.proofs.Singles.{as_singles}
-use Rattle.exports.specs.Numbers.{flag, bit, layout_state, layout_args, render_state, render_args}
+use Rattle.exports.specs.Numbers.{flag, bit, layout_state, layout_args, render_state, listed_number, render_list, render_args}
 use Rattle.exports.specs.Numbers.{file_choice, tallies_from, told_document, told_call, told_file, told_counted}
-use Rattle.exports.specs.Calls.{ChecksFile, Lays, Renders, FormatsFile}
+use Rattle.exports.specs.Calls.{ChecksFile, state_told, Lays, Renders, FormatsFile}
 use Rattle.exports.specs.Generator.{told_bytes}
 use Rattle.exports.specs.Saves.{told_batch, FormatsBatch}
 use Rattle.exports.specs.Measures.{told_columns}
 use Rattle.exports.specs.Verdict.{SaysVerdict}
-use Rattle.readback.specs.Verdict.{verdict_due, told_verdict}
+use Rattle.readback.specs.Verdict.{told_verdict}
 use Rattle.readback.specs.declared.Verdict.{Verdict}
 use Rattle.readback.specs.declared.Verdict.TheVariants.{Same, Differs}
 use Rattle.demands.specs.Demand1.{layout_numbers, render_numbers, file_numbers, count_numbers}
-use Rattle.demands.specs.Demand3.{Caller, fresh_caller, Made, Promised, after_made, call_made, answer_made, held, HeldAsDue}
-use Rattle.demands.specs.Demand3 as made
 use Rattle.demands.specs.Generator.{writer_numbers, steps_numbers}
 use Rattle.demands.specs.Saves.{batch_numbers}
 use Rattle.demands.specs.Linked.{reason_of, answer_from, checked_from, laying_from, rendering_from, formatted_from, counted_from, wrote_from, batch_from}
 use Rattle.demands.specs.Linked.{columns_from, columns_numbers, verdict_from}
-use Rattle.demands.specs.Linked.{LinkedPromises, Told, Linked1, Linked2, Holder, fresh_holder, LinkedCall, laid, rendered, LinkedPromised}
-use Rattle.demands.specs.Linked.{after_linked, call_linked, held_linked, made_linked, LinkedCut, Linked3, LinkedCallsHoldAll, LinkedLists, LinkedSingles}
+use Rattle.demands.specs.Linked.{told_state, list_after, fresh_render_numbers}
+use Rattle.demands.specs.Linked.{LinkedPromises, Told, Linked1, Linked2}
+use Rattle.demands.specs.Linked.{LinkedLists, LinkedSingles}
 use Rattle.demands.proofs.Demand1.{Under, under_if, read_under, layout_under, render_under, file_under, count_under, left_same}
 use Rattle.demands.proofs.Demand2.{demand_2}
-use Rattle.demands.proofs.Demand3.{made_run, demand_3, calls_hold_all}
+use Rattle.demands.proofs.Listed.{first_numbers, listed_back, InArray, given_fits}
 use Rattle.demands.proofs.Generator.{write_under, list_under, generator_lists}
 use Rattle.demands.proofs.Saves.{batch_under}
 use Rattle.moves.specs.Moves.{forward_image, back_image, forward_refusal, back_refusal}
@@ -126,7 +129,25 @@ record Reads {X A : Type 0} (answer : X → Answer A) (from : List ℕ → X) (t
       → answer (from (r.number ∷ r.place ∷ rest)) ≡ refused r
   pub given : (rest : List ℕ) → answer (from ((0 ∷ told a) ++ rest)) ≡ accepted a
 
--- so the numbers of an answer by a table tell that answer
+-- so the numbers of an answer by a table tell that answer, where what is given has room if it is accepted
+read_back_in : {X A : Type 0} (answer : X → Answer A) (from : List ℕ → X) (told : A → List ℕ) (ns : List ℕ) (o : Option Refusal) (a : A)
+    (out out2 : List ℕ)
+    → is_one_of 0 ns ≡ false
+    → all_named ns ≡ true
+    → Under ns o
+    → 2 ≤ length out
+    → (o ≡ None → suc (length (told a)) ≤ length out)
+    → Reads answer from told a
+    → out2 ≡ numbers_of told (answer_by o a) out
+    → answer (from out2) ≡ answer_by o a
+read_back_in {X} {A} answer from told ns o a out out2 z w u two all back e = go o refl
+  where
+    go : (x : Option Refusal) → o ≡ x → answer (from out2) ≡ answer_by x a
+    go None f = ap (λ (l : List ℕ). answer (from l)) (e ∙ told_zero told o a out (all f) f) ∙ back.given (drop (suc (length (told a))) out)
+    go (Some r) f =
+        ap (λ (l : List ℕ). answer (from l)) (e ∙ told_refusal told o a out r two f)
+        ∙ back.refusal r (drop 2 out) (named ns w r.number (u.of r f)) (not_zero ns r z (u.of r f))
+
 read_back : {X A : Type 0} (answer : X → Answer A) (from : List ℕ → X) (told : A → List ℕ) (ns : List ℕ) (o : Option Refusal) (a : A)
     (out out2 : List ℕ)
     → is_one_of 0 ns ≡ false
@@ -137,23 +158,17 @@ read_back : {X A : Type 0} (answer : X → Answer A) (from : List ℕ → X) (to
     → Reads answer from told a
     → out2 ≡ numbers_of told (answer_by o a) out
     → answer (from out2) ≡ answer_by o a
-read_back {X} {A} answer from told ns o a out out2 z w u two all back e = go o refl
-  where
-    go : (x : Option Refusal) → o ≡ x → answer (from out2) ≡ answer_by x a
-    go None f = ap (λ (l : List ℕ). answer (from l)) (e ∙ told_zero told o a out all f) ∙ back.given (drop (suc (length (told a))) out)
-    go (Some r) f =
-        ap (λ (l : List ℕ). answer (from l)) (e ∙ told_refusal told o a out r two f)
-        ∙ back.refusal r (drop 2 out) (named ns w r.number (u.of r f)) (not_zero ns r z (u.of r f))
+read_back answer from told ns o a out out2 z w u two all back e = read_back_in answer from told ns o a out out2 z w u two (λ f. all) back e
 
 -- the first numbers of it
-told_first : {A : Type 0} (told : A → List ℕ) (ns : List ℕ) (o : Option Refusal) (a : A) (out out2 : List ℕ) (Kept : Type 0) → Under ns o
+told_first_in : {A : Type 0} (told : A → List ℕ) (ns : List ℕ) (o : Option Refusal) (a : A) (out out2 : List ℕ) (Kept : Type 0) → Under ns o
     → 2 ≤ length out
-    → suc (length (told a)) ≤ length out
+    → (o ≡ None → suc (length (told a)) ≤ length out)
     → ((r : Refusal) → o ≡ Some r → Kept)
     → out2 ≡ numbers_of told (answer_by o a) out
     → Told ns o out2 Kept
-told_first told ns o a out out2 Kept u two all kept e = record {
-  accepted = λ f. ap (λ (l : List ℕ). get_or l 0 0) (e ∙ told_zero told o a out all f);
+told_first_in told ns o a out out2 Kept u two all kept e = record {
+  accepted = λ f. ap (λ (l : List ℕ). get_or l 0 0) (e ∙ told_zero told o a out (all f) f);
   refused =
       λ r f.
       let at = e ∙ told_refusal told o a out r two f in
@@ -164,6 +179,14 @@ told_first told ns o a out out2 Kept u two all kept e = record {
         kept = kept r f;
       };
 }
+
+told_first : {A : Type 0} (told : A → List ℕ) (ns : List ℕ) (o : Option Refusal) (a : A) (out out2 : List ℕ) (Kept : Type 0) → Under ns o
+    → 2 ≤ length out
+    → suc (length (told a)) ≤ length out
+    → ((r : Refusal) → o ≡ Some r → Kept)
+    → out2 ≡ numbers_of told (answer_by o a) out
+    → Told ns o out2 Kept
+told_first told ns o a out out2 Kept u two all kept e = told_first_in told ns o a out out2 Kept u two (λ f. all) kept e
 
 -- ---- the reader's check: its answer is one by a table
 abbrev document_by : Read Image → Document
@@ -201,11 +224,108 @@ laying_reads s b t n = record {
       n);
 }
 
-rendering_reads : (s b : List ℕ) (t : states.RenderState) (n : ℕ) → Reads (render.rendering_answer s b) rendering_from (told_call s b) (written t n)
-rendering_reads s b t n = record {
+-- a rendering's answer with the list at exit
+abbrev rendered_answer : (s b : List ℕ) → Result Written Refused × List ℕ → Answer (CallResult (rules_of s b))
+rendered_answer s b x = render.rendering_answer s b x.1 x.0
+
+abbrev rendered_from : List ℕ → List ℕ → Result Written Refused × List ℕ
+rendered_from state o = (rendering_from o, list_after state o)
+
+-- a state with these rows listed
+abbrev with_rows : states.RenderState → List OpenRow → states.RenderState
+with_rows t l = record { pen = t.pen; in_use = t.in_use; row = t.row; width = t.width; rule = t.rule; listed = l }
+
+-- the list that an accepted answer leaves holds its rows
+rows_after : (ls : List OpenRow) (old rest : List ℕ) → listed_of (length ls) (write_front (take (length ls) (map row_number ls ++ rest)) old) ≡ ls
+rows_after ls old rest =
+    ap (λ (l : List ℕ). listed_of (length ls) (write_front l old)) (first_numbers ls rest)
+    ∙ listed_back ls (drop (length (map row_number ls)) old)
+
+rendering_reads : (s b state : List ℕ) (t : states.RenderState) (n k : ℕ)
+    → Reads (rendered_answer s b) (rendered_from state) (told_call s b) (written t n k)
+rendering_reads s b state t n k = record {
   refusal = λ r rest. refusal_from _ _ r rest;
-  given = λ rest. refl;
+  given = λ rest. ap (λ (l : List OpenRow). accepted (written (with_rows t l) n k)) (rows_after t.listed (render_list state) rest);
 }
+
+-- and so does the list that stands for its state, as it is handed on
+rows_told : (ls : List OpenRow) (rest : List ℕ) → InArray ls
+    → listed_of (length ls)
+    (map listed_number (take (length ls) (take 256 (map row_number ls ++ rest)))
+    ++ replicate (MAX_DEPTH - length (take (length ls) (take 256 (map row_number ls ++ rest)))) 0)
+    ≡ ls
+rows_told ls rest h =
+    let first : take (length ls) (take 256 (map row_number ls ++ rest)) ≡ map row_number ls =
+    take-take (length ls) 256 (map row_number ls ++ rest) h.few ∙ first_numbers ls rest in
+    ap (λ (l : List ℕ). listed_of (length ls) (map listed_number l ++ replicate (MAX_DEPTH - length l) 0)) first
+    ∙ ap (λ (l : List ℕ). listed_of (length ls) (l ++ replicate (MAX_DEPTH - length (map row_number ls)) 0)) h.uncut
+    ∙ listed_back ls (replicate (MAX_DEPTH - length (map row_number ls)) 0)
+
+-- of an answer, that both lists stand for the same state
+pub record SameState (state out2 : List ℕ) : Type 0 where
+  pub same : state_told (told_state out2) ≡ render.to_state (render_state (told_state out2)) (list_after state out2)
+
+same_state : (s b state : List ℕ) (t : states.RenderState) (n k : ℕ) (rest : List ℕ) → InArray t.listed
+    → SameState state ((0 ∷ told_call s b (written t n k)) ++ rest)
+same_state s b state t n k rest h = record {
+  same = ap (with_rows t) (rows_told t.listed rest h ∙ sym (rows_after t.listed (render_list state) rest));
+}
+
+-- a rendering call's numbers
+module _ (s b store marks output state args out store2 marks2 output2 out2 : List ℕ) (h : length out ≡ 267)
+    (p : Renders s b store marks output state args out store2 marks2 output2 out2) where
+  abbrev asked : RenderArgs states.RenderChoice
+  asked = render.to_args (render_args args) (length output)
+
+  abbrev table : Option Refusal
+  table = (rules_of s b).render_refusal asked (state_told state) store marks
+
+  abbrev gives : RenderResult states.RenderState
+  gives = render_gives (rules_of s b) asked (state_told state) store marks
+
+  abbrev given : CallResult (rules_of s b)
+  given = written gives.state (length gives.text) gives.entered
+
+  fits : table ≡ None → InArray gives.state.listed
+  fits e = given_fits s b (state_told state) (render_args args) (length output) store marks e
+
+  room : table ≡ None → suc (length (told_call s b given)) ≤ length out
+  room e = let few = (fits e).few in omega (arith, length-map gives.state.listed row_number)
+
+  -- what they are where the call is accepted
+  numbers : table ≡ None → out2 ≡ (0 ∷ told_call s b given) ++ drop (suc (length (told_call s b given))) out
+  numbers e = p.told_as ∙ told_zero (told_call s b) table given out (room e) e
+
+  list_left : list_after state out2
+      ≡ unless table (render_list state) (write_front (map row_number gives.state.listed) (render_list state))
+  list_left = go table refl
+    where
+      go : (o : Option Refusal) → table ≡ o
+          → list_after state out2 ≡ unless o (render_list state) (write_front (map row_number gives.state.listed) (render_list state))
+      go None e =
+          ap (list_after state) (numbers e)
+          ∙ ap (λ (l : List ℕ). write_front l (render_list state)) (first_numbers gives.state.listed (drop (suc (length (told_call s b given))) out))
+      go (Some r) e =
+          let u = render_under s b asked (state_told state) store marks in
+          ap (list_after state) (p.told_as ∙ told_refusal (told_call s b) table given out r (omega arith) e)
+          ∙ ap
+          (λ (x : Bool).
+          cond x (write_front (take (get_or (drop 2 out) 8 0) (drop 9 (drop 2 out))) (render_list state)) (render_list state))
+          (not_zero render_numbers r refl (u.of r e))
+
+  -- an answer that begins with 0 hands a state on
+  pub states_same : get_or out2 0 0 ≡ 0 → SameState state out2
+  states_same z = go table refl
+    where
+      go : (o : Option Refusal) → table ≡ o → SameState state out2
+      go None e =
+          subst (SameState state) (sym (numbers e))
+          (same_state s b state gives.state (length gives.text) gives.entered (drop (suc (length (told_call s b given))) out) (fits e))
+      go (Some r) e =
+          let u = render_under s b asked (state_told state) store marks in
+          let first : get_or out2 0 0 ≡ r.number =
+          ap (λ (l : List ℕ). get_or l 0 0) (p.told_as ∙ told_refusal (told_call s b) table given out r (omega arith) e) in
+          false_true (sym (not_zero render_numbers r refl (u.of r e)) ∙ eq-eqb r.number 0 (sym first ∙ z))
 
 formatted_reads : (a : FileResult) → Reads formatted_answer formatted_from told_file a
 formatted_reads a = record { refusal = λ r rest. refusal_from _ _ r rest; given = λ rest. refl }
@@ -268,19 +388,20 @@ linked_promises = record {
   render =
       λ s b store marks output state args out store2 marks2 output2 out2 h p.
       let q = render.to_args (render_args args) (length output) in
-      let z = render.to_state (render_state state) in
+      let z = state_told state in
       let o = (rules_of s b).render_refusal q z store marks in
       record {
         answer =
-            read_back (render.rendering_answer s b) rendering_from (told_call s b) render_numbers o (written _ _) out out2 refl refl
+            read_back_in (rendered_answer s b) (rendered_from state) (told_call s b) render_numbers o (written _ _ _) out out2 refl refl
             (render_under s b q z store marks)
             (omega arith)
-            (omega arith)
-            (rendering_reads s b _ _)
+            (room s b store marks output state args out store2 marks2 output2 out2 h p)
+            (rendering_reads s b state _ _ _)
             p.told_as;
         store_left_of = p.store_left_of;
         marks_left_of = p.marks_left_of;
         output_left_of = p.output_left_of;
+        list_left_of = list_left s b store marks output state args out store2 marks2 output2 out2 h p;
       };
   format =
       λ s b choice output out output2 out2 h p.
@@ -400,10 +521,11 @@ linked_1 = record {
   render =
       λ s b store marks output state args out store2 marks2 output2 out2 h p.
       let q = render.to_args (render_args args) (length output) in
-      let z = render.to_state (render_state state) in
-      told_first (told_call s b) render_numbers ((rules_of s b).render_refusal q z store marks) (written _ _) out out2 _ (render_under s b q z store marks)
+      let z = state_told state in
+      told_first_in (told_call s b) render_numbers ((rules_of s b).render_refusal q z store marks) (written _ _ _) out out2 _
+      (render_under s b q z store marks)
       (omega arith)
-      (omega arith)
+      (room s b store marks output state args out store2 marks2 output2 out2 h p)
       (λ r f. (p.store_left_of, p.marks_left_of ∙ left_same _ r marks _ f, p.output_left_of ∙ left_same _ r output _ f))
       p.told_as;
   format =
@@ -479,16 +601,19 @@ linked_layout archive s b store state args out store2 out2 h p e =
     subst (λ (r : Result Laid Refused). LayoutCalled s b (layout_state state) (layout_args archive args) store r store2) (from_accepted _ out2 e)
     (linked_promises.layout archive s b store state args out store2 out2 h p)
 
-pub linked_render : (s b store marks output state args out store2 marks2 output2 out2 : List ℕ) → length out ≡ 9
+pub linked_render : (s b store marks output state args out store2 marks2 output2 out2 : List ℕ) → length out ≡ 267
     → Renders s b store marks output state args out store2 marks2 output2 out2
     → get_or out2 0 0 ≡ 0
-    → RenderCalled s b (render_state state) (render_args args) store marks output
-    (Ok (record { state = render_state (take 7 (drop 2 out2)); bytes = record { 0 = get_or out2 1 0 } }))
+    → RenderCalled s b (state_told state) (render_args args) store marks output (render_list state)
+    (Ok (record { state = render_state (told_state out2); bytes = record { 0 = get_or out2 1 0 }; entered = get_or out2 2 0 }))
     store2
     marks2
     output2
+    (list_after state out2)
 linked_render s b store marks output state args out store2 marks2 output2 out2 h p e =
-    subst (λ (r : Result Written Refused). RenderCalled s b (render_state state) (render_args args) store marks output r store2 marks2 output2)
+    subst
+    (λ (r : Result Written Refused).
+    RenderCalled s b (state_told state) (render_args args) store marks output (render_list state) r store2 marks2 output2 (list_after state out2))
     (from_accepted _ out2 e)
     (linked_promises.render s b store marks output state args out store2 marks2 output2 out2 h p)
 
@@ -521,155 +646,13 @@ linked_2 = record {
       λ archive s b store rule out store2 out2 h p e.
       demand_2.closed_keeping archive s b store rule _ _ store2 (linked_layout archive s b store _ _ out store2 out2 h p e);
   rendered =
-      λ archive s b store mode rule out store2 out2 h p e width marks output out3 store3 marks2 output2 out4 k q f.
+      λ archive s b store mode rule out store2 out2 h p e width allotment enough marks output out3 store3 marks2 output2 out4 k q f.
       let laid_out_lem = linked_layout archive s b store _ _ out store2 out2 h p e in
-      demand_2.rendered archive s b store mode rule _ _ store2 laid_out_lem width marks output _ _ store3 marks2 output2
+      demand_2.rendered archive s b store mode rule _ _ store2 laid_out_lem width allotment enough marks output (render_list fresh_render_numbers) _ _ _ store3
+      marks2 output2 _
       (linked_render s b store2 marks output _ _ out3 store3 marks2 output2 out4 k q f);
   file = λ s b choice output out output2 out2 h p e. demand_2.file s b _ output _ _ _ _ output2 (linked_file s b choice output out output2 out2 h p e);
 }
-
--- ---- demand 3: linked calls are calls
-abbrev caller_of : Holder → Caller
-caller_of w = record {
-  store = w.store;
-  marks = w.marks;
-  layout_state_of = layout_state w.layout_state_of;
-  render_state_of = render_state w.render_state_of;
-  text = w.text;
-  left = w.left;
-}
-
-after_one : (w : Holder) (m : LinkedCall) → caller_of (after_linked w m) ≡ after_made (caller_of w) (made_linked m)
-after_one w (laid archive args out store2 out2) = go (eqb (get_or out2 0 0) 0)
-  where
-    new : List ℕ
-    new = take 9 (drop 2 out2)
-
-    told : Refused
-    told = record { reason = reason_of (get_or out2 0 0); place = get_or out2 1 0 }
-
-    go : (x : Bool)
-        → caller_of (record {
-          store = store2;
-          marks = w.marks;
-          layout_state_of = cond x new w.layout_state_of;
-          render_state_of = w.render_state_of;
-          text = w.text;
-          left = cond x (Some (get_or out2 1 0)) w.left;
-        })
-        ≡ after_made (caller_of w)
-        (made.laid (layout_args archive args) (cond x (Ok (record { state = layout_state new; left = get_or out2 1 0 })) (Err told)) store2)
-    go true = refl
-    go false = refl
-after_one w (rendered args output out store2 marks2 output2 out2) = go (eqb (get_or out2 0 0) 0)
-  where
-    new : List ℕ
-    new = take 7 (drop 2 out2)
-
-    answer : Bool → Result Written Refused
-    answer x =
-        cond x (Ok (record { state = render_state new; bytes = record { 0 = get_or out2 1 0 } }))
-        (Err (record { reason = reason_of (get_or out2 0 0); place = get_or out2 1 0 }))
-
-    go : (x : Bool)
-        → caller_of (record {
-          store = store2;
-          marks = marks2;
-          layout_state_of = w.layout_state_of;
-          render_state_of = cond x new w.render_state_of;
-          text = w.text ++ cond x (take (get_or out2 1 0) output2) [];
-          left = w.left;
-        })
-        ≡ after_made (caller_of w) (made.rendered (render_args args) output (answer x) store2 marks2 output2)
-    go true = refl
-    go false =
-        ap (λ (t : List ℕ). record {
-          store = store2;
-          marks = marks2;
-          layout_state_of = layout_state w.layout_state_of;
-          render_state_of = render_state w.render_state_of;
-          text = t;
-          left = w.left;
-        })
-        (append-nil w.text)
-
-after_linked_lem : (w : Holder) (ms : List LinkedCall) → caller_of (after_all after_linked w ms) ≡ after_all after_made (caller_of w) (map made_linked ms)
-after_linked_lem w [] = refl
-after_linked_lem w (m ∷ ms) = after_linked_lem (after_linked w m) ms ∙ ap (λ (c : Caller). after_all after_made c (map made_linked ms)) (after_one w m)
-
-module _ (s b : List ℕ) where
-  promised : (w : Holder) (m : LinkedCall) → LinkedPromised s b w m → Promised s b (caller_of w) (made_linked m)
-  promised w (laid archive args out store2 out2) p = linked_promises.layout archive s b w.store w.layout_state_of args out store2 out2 p.0 p.1
-  promised w (rendered args output out store2 marks2 output2 out2) p =
-      linked_promises.render s b w.store w.marks output w.render_state_of args out store2 marks2 output2 out2 p.0 p.1
-
-  kept_linked : (w : Holder) (ms : List LinkedCall) → AllKept after_linked (LinkedPromised s b) w ms
-      → AllKept after_made (Promised s b) (caller_of w) (map made_linked ms)
-  kept_linked w [] p = tt
-  kept_linked w (m ∷ ms) p = (
-    promised w m p.0,
-    subst (λ (c : Caller). AllKept after_made (Promised s b) c (map made_linked ms)) (after_one w m) (kept_linked (after_linked w m) ms p.1),
-  )
-
-  same_call : (m : LinkedCall) → call_made s b (made_linked m) ≡ call_linked s b m
-  same_call (laid archive args out store2 out2) = refl
-  same_call (rendered args output out store2 marks2 output2 out2) = refl
-
-  same_calls : (ms : List LinkedCall) → map (call_made s b) (map made_linked ms) ≡ map (call_linked s b) ms
-  same_calls [] = refl
-  same_calls (m ∷ ms) = ap₂ (λ (x : Call (rules_of s b)) (xs : List (Call (rules_of s b))). x ∷ xs) (same_call m) (same_calls ms)
-
-  same_answers : (ms : List LinkedCall) → map (answer_made s b) (map made_linked ms) ≡ map (λ m. answer_made s b (made_linked m)) ms
-  same_answers [] = refl
-  same_answers (m ∷ ms) = ap (λ (xs : List (Answer (CallResult (rules_of s b)))). answer_made s b (made_linked m) ∷ xs) (same_answers ms)
-
-  -- linked calls that keep their promises make the run of the rules
-  module _ (store₀ marks₀ : List ℕ) (calls : List LinkedCall) (p : AllKept after_linked (LinkedPromised s b) (fresh_holder store₀ marks₀) calls) where
-    abbrev made_calls : List Made
-    made_calls = map made_linked calls
-
-    kept_all : AllKept after_made (Promised s b) (fresh_caller store₀ marks₀) made_calls
-    kept_all = kept_linked (fresh_holder store₀ marks₀) calls p
-
-    held_same : held_linked s b (after_all after_linked (fresh_holder store₀ marks₀) calls)
-        ≡ held s b (after_all after_made (fresh_caller store₀ marks₀) made_calls)
-    held_same = ap (held s b) (after_linked_lem (fresh_holder store₀ marks₀) calls)
-
-    pub linked_run : held_linked s b (after_all after_linked (fresh_holder store₀ marks₀) calls)
-        ≡ run (rules_of s b) (start (rules_of s b) store₀ marks₀) (map (call_linked s b) calls)
-    linked_run =
-        held_same
-        ∙ made_run s b store₀ marks₀ made_calls kept_all
-        ∙ ap (λ (cs : List (Call (rules_of s b))). run (rules_of s b) (start (rules_of s b) store₀ marks₀) cs) (same_calls calls)
-
-    linked_cut : AllReadLaid (rules_of s b) (start (rules_of s b) store₀ marks₀) (map (call_linked s b) calls) → LinkedCut s b store₀ marks₀ calls
-    linked_cut h =
-        let R = rules_of s b in
-        let d =
-        demand_3 s b store₀ marks₀ made_calls kept_all (subst (λ (cs : List (Call R)). AllReadLaid R (start R store₀ marks₀) cs)
-        (sym (same_calls calls)) h)
-        in
-        record {
-          as_due = subst₂ (λ (cs : List (Call R)) (v : Carried R). HeldAsDue s b store₀ marks₀ cs v) (same_calls calls) (sym held_same) d.as_due;
-          answered = sym (same_answers calls) ∙ d.answered ∙ ap (λ (cs : List (Call R)). answers_due R store₀ marks₀ (at_first R) cs)
-              (same_calls calls);
-        }
-
-    linked_holds : (layout_state (after_all after_linked (fresh_holder store₀ marks₀) calls).layout_state_of).closed ≡ true
-        → (layout_state (after_all after_linked (fresh_holder store₀ marks₀) calls).layout_state_of).mode ≡ NEW_MODE
-        → HoldsAll s b (held_linked s b (after_all after_linked (fresh_holder store₀ marks₀) calls))
-    linked_holds closed new =
-        let e = after_linked_lem (fresh_holder store₀ marks₀) calls in
-        subst (HoldsAll s b) (sym held_same)
-        (calls_hold_all s b store₀ marks₀ made_calls kept_all
-        (ap (λ (c : Caller). c.layout_state_of.closed) (sym e) ∙ closed)
-        (ap (λ (c : Caller). c.layout_state_of.mode) (sym e) ∙ new))
-
-pub linked_3 : Linked3
-linked_3 s b store₀ marks₀ calls p h = linked_cut s b store₀ marks₀ calls p h
-
-pub linked_calls_hold_all : LinkedCallsHoldAll
-linked_calls_hold_all s b store₀ marks₀ calls p closed new = linked_holds s b store₀ marks₀ calls p closed new
 
 -- ---- requests 5 and 7
 pub linked_lists : LinkedLists

@@ -6,7 +6,7 @@ use Prim.Native.Nat.{ℕ}
 use Rattle.refusals.specs.Answers.{Answer, answer_by, refusal_of}
 use Rattle.image.specs.Read.{Read, got, bad, Image, read_all, read_refusal}
 use Rattle.readback.specs.ReadsBack.{Verdicts}
-use Rattle.readback.specs.Verdict.{offenders, verdict_on, verdict_by, verdict_due}
+use Rattle.readback.specs.Verdict.{offenders, verdict_on, verdict_by}
 use Rattle.readback.specs.declared.Verdict.{Verdict}
 use Rattle.readback.specs.declared.Verdict.TheVariants.{Same}
 use Rattle.readback.proofs.Claimed.{verdict_holds}

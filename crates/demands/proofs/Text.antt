@@ -20,6 +20,12 @@ use Rattle.whole_run.specs.Text.{IsProgram, TextKept}
 use Rattle.whole_run.proofs.FileTable.{laid_passed, before_marks_lem}
 use Rattle.whole_run.proofs.File.{new_mode_leaves_none}
 use Rattle.whole_run.proofs.Text.{kept_comments_held, text_is_the_program, new_mode_places_all, output_is_the_program, calls_keep_the_text}
+use Rattle.rows.specs.Node.{Text as Comment}
+use Rattle.renderer_rules.specs.Page.{text_bytes}
+use Rattle.renderer_rules.specs.Holds.{HoldsInOrder, anything, IsLine}
+use Rattle.renderer_rules.proofs.Holds.{holds_the_comments}
+use Rattle.stop_facts.specs.SoFar.{KeptInside}
+use Rattle.stop_facts.proofs.SoFar.{calls_keep_inside}
 use Rattle.file.specs.Whole.{source_of, image_of}
 use Rattle.file.specs.Reply.{reply, reply_by}
 use Rattle.batch.specs.Batch.{Save, all_saves, saves_by, row_of, text_by, rendered, single, table_of, texts_of, table_due}
@@ -27,10 +33,12 @@ use Rattle.batch.specs.Batch.{texts_due, batch_refusal, BatchResult, batch_resul
 use Rattle.demands.specs.Demand3.{call_made}
 use Rattle.demands.specs.Linked.{call_linked}
 use Rattle.demands.specs.Text.{FileIsTheProgram, FileHolds, NewModeFileHoldsAll, LinkedFileIsTheProgram, ReplyIsTheProgram}
-use Rattle.demands.specs.Text.{CallsAreTheProgram, LinkedCallsAreTheProgram, CallsHold, ClosedCallsHoldAll}
+use Rattle.demands.specs.Text.{CallsAreTheProgram, LinkedCallsAreTheProgram, CallsKeptInside, LinkedCallsKeptInside, CommentsHeldSoFar}
+use Rattle.demands.specs.Text.{CallsHold, ClosedCallsHoldAll}
 use Rattle.demands.specs.Text.{EachKept, no_file, refused_one, text_of_one, BatchIsThePrograms, LinkedBatchIsThePrograms}
 use Rattle.demands.proofs.Demand3.{made_run}
-use Rattle.demands.proofs.Linked.{linked_run, linked_file, linked_batch}
+use Rattle.demands.proofs.Linked.{linked_file, linked_batch}
+use Rattle.demands.proofs.LinkedCalls.{linked_run}
 
 -- ---- a whole file
 pub file_is_the_program : FileIsTheProgram
@@ -65,14 +73,29 @@ reply_is_the_program frame out n out2 p e =
 
 -- ---- lists of calls
 pub calls_are_the_program : CallsAreTheProgram
-calls_are_the_program s b store₀ marks₀ made p h =
-    subst (λ (v : Carried (rules_of s b)). TextKept s b v) (sym (made_run s b store₀ marks₀ made p))
+calls_are_the_program s b store₀ marks₀ listed₀ made p h =
+    subst (λ (v : Carried (rules_of s b)). TextKept s b v) (sym (made_run s b store₀ marks₀ listed₀ made p))
     (calls_keep_the_text s b store₀ marks₀ (map (call_made s b) made) h)
 
 pub linked_calls_are_the_program : LinkedCallsAreTheProgram
 linked_calls_are_the_program s b store₀ marks₀ made p h =
     subst (λ (v : Carried (rules_of s b)). TextKept s b v) (sym (linked_run s b store₀ marks₀ made p))
     (calls_keep_the_text s b store₀ marks₀ (map (call_linked s b) made) h)
+
+pub calls_kept_inside : CallsKeptInside
+calls_kept_inside s b store₀ marks₀ listed₀ made p h =
+    subst (λ (v : Carried (rules_of s b)). KeptInside s b v) (sym (made_run s b store₀ marks₀ listed₀ made p))
+    (calls_keep_inside s b store₀ marks₀ (map (call_made s b) made) h)
+
+pub linked_calls_kept_inside : LinkedCallsKeptInside
+linked_calls_kept_inside s b store₀ marks₀ made p h =
+    subst (λ (v : Carried (rules_of s b)). KeptInside s b v) (sym (linked_run s b store₀ marks₀ made p))
+    (calls_keep_inside s b store₀ marks₀ (map (call_linked s b) made) h)
+
+pub comments_held_so_far : CommentsHeldSoFar
+comments_held_so_far s b w k =
+    subst (λ (ts : List Comment). HoldsInOrder anything (IsLine (text_bytes s b)) ts w.text) k.first
+    (holds_the_comments (text_bytes s b) k.these w.text k.made)
 
 pub calls_hold : CallsHold
 calls_hold s b w k e = kept_comments_held s b _ _ _ (k.rendered e)

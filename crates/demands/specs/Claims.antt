@@ -6,6 +6,7 @@ use Rattle.image.specs.Read.{ReadNumbers}
 use Rattle.rows.specs.Words.{WordsThere}
 use Rattle.acts.specs.Act.{Given, St}
 use Rattle.renderer_rules.specs.Call.{CallAsRust}
+use Rattle.listed_rows.specs.Numbers.{NumbersRows}
 use Rattle.widths.specs.Editions.{EditionsHold}
 use Rattle.node_widths.specs.Summed.{SuppliedStay}
 use Rattle.moves.specs.Returns.{BackAfterForward, ForwardAfterBack}
@@ -21,6 +22,8 @@ use Rattle.layout_facts.specs.Binop.{BinopAsRust}
 use Rattle.layout_facts.specs.Tokens.{SaysTheProgram, FmtParsedSaysTheProgram, SlashWords}
 use Rattle.tree.specs.InOrder.{StrictIsInOrder}
 use Rattle.whole_run.specs.Demands.{RulesCut, EntriesAgree, DueIsFmtParsed, LaidWithinLimits}
+use Rattle.whole_run.specs.Allotments.{AllotmentsJoin}
+use Rattle.stop_facts.specs.HandedOn.{HandedOn, HandedAlong, HandedAway, HandedFrom, BoundIsPassed}
 use Rattle.whole_run.specs.Edges.{EdgesHold, WidthsHold, EmptyLineHolds}
 use Rattle.whole_run.specs.File.{OldModeIsFmtParsed, NewModeLeavesNone}
 use Rattle.whole_run.specs.FileLimits.{FileTextLimited, FileColumnLimited}
@@ -38,6 +41,7 @@ use Rattle.demands.specs.Saves.{Saves1}
 use Rattle.demands.specs.Linked.{LinkedPromises, Linked1, Linked2, Linked3, LinkedCallsHoldAll, LinkedLists, LinkedSingles}
 use Rattle.demands.specs.Text.{FileIsTheProgram, FileHolds, NewModeFileHoldsAll, LinkedFileIsTheProgram}
 use Rattle.demands.specs.Text.{ReplyIsTheProgram, CallsAreTheProgram, LinkedCallsAreTheProgram}
+use Rattle.demands.specs.Text.{CallsKeptInside, LinkedCallsKeptInside, CommentsHeldSoFar}
 use Rattle.demands.specs.Text.{CallsHold, ClosedCallsHoldAll, BatchIsThePrograms, LinkedBatchIsThePrograms}
 
 -- the three demands, of the entries by what they promise
@@ -81,6 +85,8 @@ pub record TheText : Type 0 where
   pub new_mode_file_holds_all : NewModeFileHoldsAll
   pub reply_is_the_program : ReplyIsTheProgram
   pub calls_are_the_program : CallsAreTheProgram
+  pub calls_kept_inside : CallsKeptInside
+  pub comments_held_so_far : CommentsHeldSoFar
   pub calls_hold : CallsHold
   pub closed_calls_hold_all : ClosedCallsHoldAll
   pub batch_is_the_programs : BatchIsThePrograms
@@ -140,6 +146,18 @@ pub record TheRequests : Type 0 where
   -- 11: "The verdict is yes exactly when none does; otherwise the first that does in reading order, by its offset"
   pub verdict_holds : VerdictHolds
   pub reads_back_1 : ReadsBack1
+  -- 12: "From fresh to one stop, all handed on untouched, however the allotments fall, joined text, marks and end state are those of a single
+  -- rendering"; each number in the state's list is one row, with "whether its parts wrap and which way a `Call` went". The count returned, the cut
+  -- rule inside a declaration and the comments "among the rows ahead of the next one" are in the three demands.
+  pub allotments_join : AllotmentsJoin
+  pub numbers_rows : NumbersRows
+  -- "stops when they are spent, wherever that is; the next goes on": what a call answers is accepted again, from fresh always, from every other state
+  -- as far as 12's bounds let it; past them it isn't
+  pub handed_on : HandedOn
+  pub handed_along : HandedAlong
+  pub handed_away : HandedAway
+  pub handed_from : HandedFrom
+  pub bound_is_passed : BoundIsPassed
 
 -- all of it of the functions that other languages link
 pub record TheLinked : Type 0 where
@@ -152,6 +170,7 @@ pub record TheLinked : Type 0 where
   pub linked_singles : LinkedSingles
   pub linked_file_is_the_program : LinkedFileIsTheProgram
   pub linked_calls_are_the_program : LinkedCallsAreTheProgram
+  pub linked_calls_kept_inside : LinkedCallsKeptInside
   pub linked_batch_is_the_programs : LinkedBatchIsThePrograms
 
 pub record Claims : Type 0 where

@@ -35,11 +35,12 @@ use Rattle.figures.specs.Figures as count
 abbrev pub layout_numbers : List ℕ
 layout_numbers = 20 ∷ (reader_numbers ++ (12 ∷ 8 ∷ []))
 
--- "rendering 1, 3 by the same tests, then 11, 12, 9, 10", 15 "directly after 12", 20 "before 1", and "under the new rule .. 2 as well"
+-- "rendering 1, 3 by the same tests, then 11, 12, 9, 10", 15 "directly after 12", 20 "before 1", "under the new rule .. 2 as well", and 22 and 23
+-- "both after 15"
 abbrev pub render_numbers : List ℕ
-render_numbers = 20 ∷ 1 ∷ 2 ∷ 3 ∷ 11 ∷ 12 ∷ 15 ∷ 9 ∷ 10 ∷ []
+render_numbers = 20 ∷ 1 ∷ 2 ∷ 3 ∷ 11 ∷ 12 ∷ 15 ∷ 22 ∷ 23 ∷ 9 ∷ 10 ∷ []
 
--- a whole file, which is laid out and rendered from fresh, so that 12 refuses the mode alone
+-- a whole file, which is laid out and rendered from fresh, so that 12 refuses the mode alone, and 22 and 23 nothing
 abbrev pub file_numbers : List ℕ
 file_numbers = 20 ∷ (reader_numbers ++ (12 ∷ 15 ∷ 8 ∷ 9 ∷ 10 ∷ []))
 
@@ -77,14 +78,14 @@ LayoutAnswered = (s b : List ℕ) (state : LayoutState) (args : LayoutArgs) (sto
     → Answered layout_numbers ((rules_of s b).layout_refusal (layout.to_args args) (layout.to_state state) store) (refusal_in r)
     (store2 ≡ store)
 
--- `render_call::render_call`
+-- `render_call::render_call`, which is lent the list of open rows beside its state
 abbrev pub RenderAnswered : Type 0
-RenderAnswered = (s b : List ℕ) (state : RenderState) (args : RenderArgs) (store marks out : List ℕ) (r : Result Written Refused)
-    (store2 marks2 out2 : List ℕ)
-    → RenderCalled s b state args store marks out r store2 marks2 out2
-    → Answered render_numbers ((rules_of s b).render_refusal (render.to_args args (length out)) (render.to_state state) store marks)
+RenderAnswered = (s b : List ℕ) (state : RenderState) (args : RenderArgs) (store marks out listed : List ℕ) (r : Result Written Refused)
+    (store2 marks2 out2 listed2 : List ℕ)
+    → RenderCalled s b (render.to_state state listed) args store marks out listed r store2 marks2 out2 listed2
+    → Answered render_numbers ((rules_of s b).render_refusal (render.to_args args (length out)) (render.to_state state listed) store marks)
     (refusal_in r)
-    ((store2 ≡ store) × (marks2 ≡ marks) × (out2 ≡ out))
+    ((store2 ≡ store) × (marks2 ≡ marks) × (out2 ≡ out) × (listed2 ≡ listed))
 
 -- `file::format_file`, whatever its caller chose
 abbrev pub FileAnswered : Type 0

@@ -6,8 +6,9 @@
 -- that is accepted, by each rule of width. The old mode is the Rust's; of the new one it is said what closing adds, and that no comment is left.
 -- What a rule changes in the rows: `laid_nodes` (crates/node_widths/specs/Summed.antt), the sum in each `Str`.
 -- That the Rust's own choices give what there was before one could be made is `ReferenceHolds` (crates/whole_run/specs/Reference.antt).
-use Rattle.std.specs.Prelude.{◌≡◌, Bool, true, false, List, ℕ, ◌-◌, length, take, Ok}
+use Rattle.std.specs.Prelude.{◌≡◌, Bool, true, false, List, [], ℕ, ◌-◌, ◌≤◌, length, take, replicate, Ok}
 use Rattle.rows.specs.Rows.{sizes, rows}
+use Rattle.rows.specs.View.{view_of}
 use Rattle.rows.specs.declared.units.Bytes.{Bytes}
 use Rattle.acts.specs.Act.{Out}
 use Rattle.tree.specs.CommentList.{comments_of}
@@ -15,15 +16,18 @@ use Rattle.comments.specs.Listed.{given}
 use Rattle.layout.specs.Layout.{fmt_parsed}
 use Rattle.node_widths.specs.Summed.{laid_nodes}
 use Rattle.layout.specs.Closing.{fresh, up_to, whole_rule}
+use Rattle.renderer_rules.specs.Stops.{entered}
 use Rattle.cut_rule.specs.Run.{write_front}
-use Rattle.cut_rule.specs.States.{OLD_MODE, NEW_MODE}
+use Rattle.cut_rule.specs.States.{render_fresh, OLD_MODE, NEW_MODE}
+use Rattle.whole_run.specs.Parts.{renderer_of, page}
 use Rattle.whole_run.specs.Demands.{LaidWithinLimits}
 use Rattle.whole_run.specs.Reference.{ReferenceHolds}
 use Rattle.whole_run.specs.File.{OldModeIsFmtParsed, NewModeLeavesNone}
-use Rattle.whole_run.specs.Built.{FileChoice, built, drawn_due, tree, declared}
+use Rattle.whole_run.specs.Built.{FileChoice, render_choice, built, laid, marks_due, drawn_due, tree, declared}
 use Rattle.layout_call.specs.declared.LayoutState.{LayoutState}
 use Rattle.layout_call.specs.Whole.{LayoutCalled}
 use Rattle.render_call.specs.declared.RenderState.{RenderState}
+use Rattle.render_call.specs.Calls as render
 use Rattle.render_call.specs.Whole.{RenderCalled}
 use Rattle.file.specs.Whole.{Formats}
 use Rattle.demands.specs.Fresh.{fresh_layout, fresh_render}
@@ -61,21 +65,33 @@ ClosedKeepingDue = (archive : Bool) (s b store : List ℕ) (rule : ℕ) (t : Lay
     → LaidOutAs rule s b (whole_rule (given s b) (tree s b) true fresh) store t left store2 × (left ≡ 0)
 
 -- ---- rendering
--- the marks, and the text at the start of the output; behind them both are as they were
-pub record DrawnAs (s b : List ℕ) (c : FileChoice) (marks out : List ℕ) (bytes : ℕ) (marks2 out2 : List ℕ) : Type 0 where
+-- "The count returned equals the rows entered in the definition: one for each row rendered": those that `render_nodes` enters of the whole document,
+-- from where `drawn_due` begins (crates/renderer_rules/specs/Stops.antt)
+abbrev pub entered_due : List ℕ → List ℕ → FileChoice → ℕ
+entered_due s b c =
+    let all = laid s b c in
+    length
+    (entered (view_of (rows all 0)) (page (render_choice c) s b) all 0 [] true (renderer_of render_fresh.pen (replicate (marks_due s b c) 0)))
+
+-- the marks, and the text at the start of the output; behind them both are as they were; and how many rows were entered
+pub record DrawnAs (s b : List ℕ) (c : FileChoice) (marks out : List ℕ) (bytes count : ℕ) (marks2 out2 : List ℕ) : Type 0 where
   pub marks_due_of : marks2 ≡ write_front (drawn_due s b c).marks marks
   pub bytes_due : bytes ≡ length (drawn_due s b c).text
   pub text_due : out2 ≡ write_front (drawn_due s b c).text out
+  pub count_due : count ≡ entered_due s b c
 
--- a rendering call from fresh over all rows that such a layout call, by either entry, left, in the mode, at the width and by the rule that the two chose
+-- a rendering call from fresh over all rows that such a layout call, by either entry, left, in the mode, at the width and by the rule that the two
+-- chose. Its allotment is as many rows as there are, or more. The list lent with a fresh state may hold anything.
 abbrev pub RenderedDue : Type 0
 RenderedDue = (archive : Bool) (s b store : List ℕ) (mode rule : ℕ) (t : LayoutState) (left : ℕ) (store2 : List ℕ)
     → LayoutCalled s b fresh_layout (record { stop = length (declared s b); close = true; mode = mode; rule = rule; archive = archive }) store
     (Ok (record { state = t; left = left })) store2
-    → (width : ℕ) (marks out : List ℕ) (u : RenderState) (n : Bytes) (store3 marks2 out2 : List ℕ)
-    → RenderCalled s b fresh_render (record { stop = t.row; width = record { 0 = width }; rule = rule }) store2 marks out
-    (Ok (record { state = u; bytes = n })) store3 marks2 out2
-    → DrawnAs s b (record { width = width; mode = mode; rule = rule }) marks out n.0 marks2 out2
+    → (width allotment : ℕ) → t.row ≤ allotment
+    → (marks out listed : List ℕ) (u : RenderState) (n : Bytes) (count : ℕ) (store3 marks2 out2 listed2 : List ℕ)
+    → RenderCalled s b (render.to_state fresh_render listed)
+    (record { stop = t.row; allotment = allotment; width = record { 0 = width }; rule = rule }) store2 marks out listed
+    (Ok (record { state = u; bytes = n; entered = count })) store3 marks2 out2 listed2
+    → DrawnAs s b (record { width = width; mode = mode; rule = rule }) marks out n.0 count marks2 out2
 
 -- ---- a whole file
 pub record FileAs (s b : List ℕ) (c : FileChoice) (out : List ℕ) (bytes left count numbers : ℕ) (out2 : List ℕ) : Type 0 where

@@ -13,4 +13,5 @@ fresh_render = record {
   row = 0;
   width = record { 0 = 0 };
   rule = 0;
+  listed_rows = 0;
 }

@@ -3,7 +3,7 @@
 -- `rrufthim_layout_archived`, which `archive` tells from `rrufthim_layout`. Their answers and states are arrays of so many numbers. What the
 -- numbers of an answer tell is an answer of the function in Rattle, and that function's promise holds of it (`LinkedPromises`). So the three
 -- demands and the sentences of requests 4, 5, 7 and 11 hold of what is linked. proofs/Linked.antt proves it.
-use Rattle.std.specs.Prelude.{◌≡◌, Bool, true, false, cond, List, [], ◌∷◌, ◌++◌, map, ℕ, eqb, length, get_or, take, drop, replicate, Option}
+use Rattle.std.specs.Prelude.{◌≡◌, Bool, true, false, cond, List, [], ◌∷◌, ◌++◌, map, ℕ, ◌≤◌, eqb, length, get_or, take, drop, replicate, Option}
 use Rattle.std.specs.Prelude.{None, Some, Result, Ok, Err}
 use Rattle.refusals.specs.Refusals.{Refusal, is_one_of}
 use Rattle.refusals.specs.declared.Reason.{Reason}
@@ -18,7 +18,7 @@ use Rattle.image.specs.declared.Document.{Document}
 use Rattle.comments.specs.Listed.{given}
 use Rattle.layout.specs.Layout.{fmt_parsed}
 use Rattle.layout.specs.Closing.{fresh, up_to, whole_rule}
-use Rattle.cut_rule.specs.Run.{Call, layout_call, render_call, Carried, start}
+use Rattle.cut_rule.specs.Run.{write_front, Call, layout_call, render_call, Carried, start}
 use Rattle.cut_rule.specs.Plain.{at_first, answers_due, AllReadLaid}
 use Rattle.cut_rule.specs.Callers.{after_all, AllKept}
 use Rattle.cut_rule.specs.States.{OLD_MODE, NEW_MODE}
@@ -44,8 +44,8 @@ use Rattle.batch.specs.Batch.{all_saves, saves_by, batch_refusal}
 use Rattle.batch.specs.Whole.{Batches}
 use Rattle.batch.specs.Singles as singles
 use Rattle.batch.specs.declared.Batch.{Batch}
-use Rattle.exports.specs.Numbers.{layout_state, layout_args, render_state, render_args, file_choice, figures_from, tallies_from}
-use Rattle.exports.specs.Calls.{ChecksFile, CountsFile, Lays, Renders, FormatsFile}
+use Rattle.exports.specs.Numbers.{layout_state, layout_args, render_state, render_list, render_args, file_choice, figures_from, tallies_from}
+use Rattle.exports.specs.Calls.{ChecksFile, CountsFile, state_told, Lays, Renders, FormatsFile}
 use Rattle.exports.specs.Generator.{WritesImage, ListsSteps}
 use Rattle.exports.specs.Saves.{FormatsBatch}
 use Rattle.exports.specs.Measures.{MeasuresText}
@@ -92,7 +92,9 @@ reason_of n =
     (cond (eqb n 18) reason.Frames
     (cond (eqb n 19) reason.BatchNeeds
     (cond (eqb n 20) reason.Rule
-    reason.StoredWidth)))))))))))))))))))
+    (cond (eqb n 21) reason.StoredWidth
+    (cond (eqb n 22) reason.Allotment
+    reason.Listed)))))))))))))))))))))
 
 -- an answer, by what it tells where it begins with 0
 abbrev pub answer_from : {A : Type 0} → A → List ℕ → Result A Refused
@@ -104,8 +106,16 @@ checked_from o = answer_from (record { comments = get_or o 1 0; tree = get_or o 
 abbrev pub laying_from : List ℕ → Result Laid Refused
 laying_from o = answer_from (record { state = layout_state (take 9 (drop 2 o)); left = get_or o 1 0 }) o
 
+-- the state of an accepted rendering, as it is handed on
+abbrev pub told_state : List ℕ → List ℕ
+told_state o = take 264 (drop 3 o)
+
 abbrev pub rendering_from : List ℕ → Result Written Refused
-rendering_from o = answer_from (record { state = render_state (take 7 (drop 2 o)); bytes = record { 0 = get_or o 1 0 } }) o
+rendering_from o = answer_from (record { state = render_state (told_state o); bytes = record { 0 = get_or o 1 0 }; entered = get_or o 2 0 }) o
+
+-- The list that the function in Rattle leaves: the rows that an accepted answer tells, over the front of the list that the state at entry stands for.
+abbrev pub list_after : List ℕ → List ℕ → List ℕ
+list_after state o = if_accepted o (write_front (take (get_or o 10 0) (drop 11 o)) (render_list state)) (render_list state)
 
 abbrev pub formatted_from : List ℕ → Result Text Refused
 formatted_from o = answer_from (record { bytes = record { 0 = get_or o 1 0 }; left = get_or o 2 0; rows = get_or o 3 0; numbers = get_or o 4 0 }) o
@@ -134,9 +144,10 @@ pub record LinkedPromises : Type 0 where
       → Checks s b (checked_from out2)
   pub layout : (archive : Bool) (s b store state args out store2 out2 : List ℕ) → length out ≡ 11 → Lays archive s b store state args out store2 out2
       → LayoutCalled s b (layout_state state) (layout_args archive args) store (laying_from out2) store2
-  pub render : (s b store marks output state args out store2 marks2 output2 out2 : List ℕ) → length out ≡ 9
+  pub render : (s b store marks output state args out store2 marks2 output2 out2 : List ℕ) → length out ≡ 267
       → Renders s b store marks output state args out store2 marks2 output2 out2
-      → RenderCalled s b (render_state state) (render_args args) store marks output (rendering_from out2) store2 marks2 output2
+      → RenderCalled s b (state_told state) (render_args args) store marks output (render_list state) (rendering_from out2) store2 marks2 output2
+      (list_after state out2)
   pub format : (s b choice output out output2 out2 : List ℕ) → length out ≡ 5 → FormatsFile s b choice output out output2 out2
       → Formats s b (to_choice (file_choice choice)) output (formatted_from out2) output2
   pub count : (s b from out out2 : List ℕ) → length out ≡ 18 → CountsFile s b from out out2
@@ -181,10 +192,9 @@ pub record Linked1 : Type 0 where
       → Lays archive s b store state args out store2 out2
       → Told layout_numbers ((rules_of s b).layout_refusal (layout.to_args (layout_args archive args)) (layout.to_state (layout_state state)) store) out2
       (store2 ≡ store)
-  pub render : (s b store marks output state args out store2 marks2 output2 out2 : List ℕ) → length out ≡ 9
+  pub render : (s b store marks output state args out store2 marks2 output2 out2 : List ℕ) → length out ≡ 267
       → Renders s b store marks output state args out store2 marks2 output2 out2
-      → Told render_numbers
-      ((rules_of s b).render_refusal (render.to_args (render_args args) (length output)) (render.to_state (render_state state)) store marks) out2
+      → Told render_numbers ((rules_of s b).render_refusal (render.to_args (render_args args) (length output)) (state_told state) store marks) out2
       ((store2 ≡ store) × (marks2 ≡ marks) × (output2 ≡ output))
   pub format : (s b choice output out output2 out2 : List ℕ) → length out ≡ 5 → FormatsFile s b choice output out output2 out2
       → Told file_numbers (file_refusal s b (to_choice (file_choice choice)) (length output)) out2 (output2 ≡ output)
@@ -211,9 +221,10 @@ abbrev pub fresh_layout_numbers : List ℕ
 fresh_layout_numbers = replicate 9 0
 
 abbrev pub fresh_render_numbers : List ℕ
-fresh_render_numbers = replicate 7 0
+fresh_render_numbers = replicate 264 0
 
--- calls from fresh that answer with 0 first leave what `fmt_parsed` builds and renders; states, comments left and bytes are the answer's numbers
+-- calls from fresh that answer with 0 first leave what `fmt_parsed` builds and renders; states, comments left, bytes and rows entered are the answer's
+-- numbers
 pub record Linked2 : Type 0 where
   pub at_stop : (archive : Bool) (s b store : List ℕ) (stop mode rule : ℕ) (out store2 out2 : List ℕ) → length out ≡ 11
       → Lays archive s b store fresh_layout_numbers (stop ∷ 0 ∷ mode ∷ rule ∷ []) out store2 out2
@@ -228,14 +239,16 @@ pub record Linked2 : Type 0 where
       → get_or out2 0 0 ≡ 0
       → LaidOutAs rule s b (whole_rule (given s b) (tree s b) true fresh) store (layout_state (take 9 (drop 2 out2))) (get_or out2 1 0) store2
       × (get_or out2 1 0 ≡ 0)
-  -- a rendering over all rows of such a layout: its stop is the layout state's next row
+  -- a rendering over all rows of such a layout: its stop is the layout state's next row, and its allotment as many rows or more
   pub rendered : (archive : Bool) (s b store : List ℕ) (mode rule : ℕ) (out store2 out2 : List ℕ) → length out ≡ 11
       → Lays archive s b store fresh_layout_numbers (length (declared s b) ∷ 1 ∷ mode ∷ rule ∷ []) out store2 out2
       → get_or out2 0 0 ≡ 0
-      → (width : ℕ) (marks output out3 store3 marks2 output2 out4 : List ℕ) → length out3 ≡ 9
-      → Renders s b store2 marks output fresh_render_numbers ((layout_state (take 9 (drop 2 out2))).row ∷ width ∷ rule ∷ []) out3 store3 marks2 output2 out4
+      → (width allotment : ℕ) → (layout_state (take 9 (drop 2 out2))).row ≤ allotment
+      → (marks output out3 store3 marks2 output2 out4 : List ℕ) → length out3 ≡ 267
+      → Renders s b store2 marks output fresh_render_numbers ((layout_state (take 9 (drop 2 out2))).row ∷ width ∷ rule ∷ allotment ∷ []) out3 store3 marks2
+      output2 out4
       → get_or out4 0 0 ≡ 0
-      → DrawnAs s b (record { width = width; mode = mode; rule = rule }) marks output (get_or out4 1 0) marks2 output2
+      → DrawnAs s b (record { width = width; mode = mode; rule = rule }) marks output (get_or out4 1 0) (get_or out4 2 0) marks2 output2
   pub file : (s b choice output out output2 out2 : List ℕ) → length out ≡ 5 → FormatsFile s b choice output out output2 out2 → get_or out2 0 0 ≡ 0
       → FileAs s b (to_choice (file_choice choice)) output (get_or out2 1 0) (get_or out2 2 0) (get_or out2 3 0) (get_or out2 4 0) output2
 
@@ -262,9 +275,9 @@ pub data LinkedCall : Type 0 where
 abbrev pub LinkedPromised : (s b : List ℕ) → Holder → LinkedCall → Type 0
 LinkedPromised s b w (laid archive args out store2 out2) = (length out ≡ 11) × Lays archive s b w.store w.layout_state_of args out store2 out2
 LinkedPromised s b w (rendered args output out store2 marks2 output2 out2) =
-    (length out ≡ 9) × Renders s b w.store w.marks output w.render_state_of args out store2 marks2 output2 out2
+    (length out ≡ 267) × Renders s b w.store w.marks output w.render_state_of args out store2 marks2 output2 out2
 
--- what the caller holds after a call: the new state is the answer from its third place on
+-- what the caller holds after a call: the new state is the answer from its third place on, and of rendering from its fourth
 abbrev pub after_linked : Holder → LinkedCall → Holder
 after_linked w (laid archive args out store2 out2) = record {
   store = store2;
@@ -278,7 +291,7 @@ after_linked w (rendered args output out store2 marks2 output2 out2) = record {
   store = store2;
   marks = marks2;
   layout_state_of = w.layout_state_of;
-  render_state_of = if_accepted out2 (take 7 (drop 2 out2)) w.render_state_of;
+  render_state_of = if_accepted out2 (told_state out2) w.render_state_of;
   text = w.text ++ if_accepted out2 (take (get_or out2 1 0) output2) [];
   left = w.left;
 }
@@ -293,15 +306,16 @@ held_linked s b w = record {
   store = w.store;
   marks = w.marks;
   layout_state_of = layout.to_state (layout_state w.layout_state_of);
-  render_state_of = render.to_state (render_state w.render_state_of);
+  render_state_of = state_told w.render_state_of;
   text = w.text;
   left = w.left;
 }
 
--- the call as one of the functions in Rattle, with the answer that its numbers tell
+-- the call as one of the functions in Rattle, with the answer and the list that its numbers tell
 abbrev pub made_linked : LinkedCall → Made
 made_linked (laid archive args out store2 out2) = made.laid (layout_args archive args) (laying_from out2) store2
-made_linked (rendered args output out store2 marks2 output2 out2) = made.rendered (render_args args) output (rendering_from out2) store2 marks2 output2
+made_linked (rendered args output out store2 marks2 output2 out2) =
+    made.rendered (render_args args) output (rendering_from out2) store2 marks2 output2 (render_list (told_state out2))
 
 -- what is held is what is due, and so is every answer
 pub record LinkedCut (s b store₀ marks₀ : List ℕ) (calls : List LinkedCall) : Type 0 where

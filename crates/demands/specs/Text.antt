@@ -13,6 +13,7 @@ use Rattle.whole_run.specs.Parts.{listed}
 use Rattle.whole_run.specs.Demands.{rules_of}
 use Rattle.whole_run.specs.Text.{HoldsFirst, IsProgram, AllRendered, TextKept}
 use Rattle.whole_run.specs.Built.{FileChoice, reference_choice, built}
+use Rattle.stop_facts.specs.SoFar.{KeptInside, comments_before_next}
 use Rattle.file.specs.Whole.{Formats, to_choice, source_of, image_of}
 use Rattle.file.specs.Reply.{program_refusal, Replies}
 use Rattle.batch.specs.Batch.{Save, all_saves, saves_by, single}
@@ -59,12 +60,12 @@ ReplyIsTheProgram =
 
 -- ---- lists of calls
 -- `layout_call::layout_call` and `render_call::render_call`: of every list of calls from fresh, refused ones among them, in which no accepted
--- call reads rows not yet laid out, at every moment
+-- call reads rows not yet laid out, at every moment, and of the text so far whenever no row is open
 abbrev pub CallsAreTheProgram : Type 0
 CallsAreTheProgram =
-    (s b store₀ marks₀ : List ℕ) (made : List Made) → AllKept after_made (Promised s b) (fresh_caller store₀ marks₀) made
+    (s b store₀ marks₀ listed₀ : List ℕ) (made : List Made) → AllKept after_made (Promised s b) (fresh_caller store₀ marks₀ listed₀) made
     → AllReadLaid (rules_of s b) (start (rules_of s b) store₀ marks₀) (map (call_made s b) made)
-    → TextKept s b (held s b (after_all after_made (fresh_caller store₀ marks₀) made))
+    → TextKept s b (held s b (after_all after_made (fresh_caller store₀ marks₀ listed₀) made))
 
 -- the same of `rrufthim_layout` and `rrufthim_render`
 abbrev pub LinkedCallsAreTheProgram : Type 0
@@ -72,6 +73,24 @@ LinkedCallsAreTheProgram =
     (s b store₀ marks₀ : List ℕ) (made : List LinkedCall) → AllKept after_linked (LinkedPromised s b) (fresh_holder store₀ marks₀) made
     → AllReadLaid (rules_of s b) (start (rules_of s b) store₀ marks₀) (map (call_linked s b) made)
     → TextKept s b (held_linked s b (after_all after_linked (fresh_holder store₀ marks₀) made))
+
+-- Wherever a rendering stopped, inside a row too (document 02, 12): the text is made of the first so many pieces of the rows laid out, and the comments
+-- among these are those of the rows before the next one, the first so many of the list
+abbrev pub CallsKeptInside : Type 0
+CallsKeptInside =
+    (s b store₀ marks₀ listed₀ : List ℕ) (made : List Made) → AllKept after_made (Promised s b) (fresh_caller store₀ marks₀ listed₀) made
+    → AllReadLaid (rules_of s b) (start (rules_of s b) store₀ marks₀) (map (call_made s b) made)
+    → KeptInside s b (held s b (after_all after_made (fresh_caller store₀ marks₀ listed₀) made))
+
+abbrev pub LinkedCallsKeptInside : Type 0
+LinkedCallsKeptInside =
+    (s b store₀ marks₀ : List ℕ) (made : List LinkedCall) → AllKept after_linked (LinkedPromised s b) (fresh_holder store₀ marks₀) made
+    → AllReadLaid (rules_of s b) (start (rules_of s b) store₀ marks₀) (map (call_linked s b) made)
+    → KeptInside s b (held_linked s b (after_all after_linked (fresh_holder store₀ marks₀) made))
+
+-- so at every moment it holds the comments of the rows before the next one
+abbrev pub CommentsHeldSoFar : Type 0
+CommentsHeldSoFar = (s b : List ℕ) (w : Carried (rules_of s b)) → KeptInside s b w → HoldsFirst s b (comments_before_next s b w) w.text
 
 -- What that says of the comments alone, of either: once all rows laid out are rendered the text holds as many as are placed, and, where the
 -- document is closed in the new mode, the whole list.

@@ -22,10 +22,21 @@ laid_numbers t =
     ∷ t.state.rule
     ∷ []
 
+-- without its listed rows, which stand in the list that is lent with the state
 abbrev pub written_numbers : Written → List ℕ
 written_numbers w =
     let pen = w.state.pen in
-    w.bytes.0 ∷ pen.indent ∷ pen.next_indent ∷ pen.column.0 ∷ w.state.in_use ∷ w.state.row ∷ w.state.width.0 ∷ w.state.rule ∷ []
+    w.bytes.0
+    ∷ w.entered
+    ∷ pen.indent
+    ∷ pen.next_indent
+    ∷ pen.column.0
+    ∷ w.state.in_use
+    ∷ w.state.row
+    ∷ w.state.width.0
+    ∷ w.state.rule
+    ∷ w.state.listed_rows
+    ∷ []
 
 abbrev pub text_numbers : Text → List ℕ
 text_numbers t = told_file (to_result t)

@@ -1,9 +1,11 @@
 -- The numbers that the exported functions take and leave, in arrays of as many places as an answer or a state has. An answer begins with a
 -- refusal's number and place, or with 0 and what is told below of what is given (`numbers_of`).
-use Rattle.std.specs.Prelude.{ℕ, ◌+◌, Bool, cond, not, List, [], ◌∷◌, eqb, get_or}
+use Rattle.std.specs.Prelude.{ℕ, ◌+◌, ◌-◌, min, Bool, cond, not, List, [], ◌∷◌, ◌++◌, map, eqb, get_or, length, take, drop, replicate}
 use Rattle.refusals.specs.Answers.{Answer, refused, accepted}
 use Rattle.text.specs.declared.newlines.Newlines.{Newlines}
 use Rattle.image.specs.declared.Document.{Document}
+use Rattle.rows.specs.Limits.{MAX_DEPTH}
+use Rattle.listed_rows.specs.Numbers.{row_number}
 use Rattle.cut_rule.specs.Run.{CallResult, laid_out, written}
 use Rattle.whole_run.specs.Demands.{rules_of}
 use Rattle.whole_run.specs.File.{FileResult}
@@ -45,7 +47,18 @@ render_state l = record {
   row = get_or l 4 0;
   width = record { 0 = get_or l 5 0 };
   rule = get_or l 6 0;
+  listed_rows = get_or l 7 0;
 }
+
+-- Its listed rows, from its ninth number on: as many as it counts, then 0. A number over 2^32 - 1 stands for 2^32 - 1, the number of a row that no
+-- store has.
+abbrev pub listed_number : ℕ → ℕ
+listed_number n = min n 4294967295
+
+abbrev pub render_list : List ℕ → List ℕ
+render_list l =
+    let rows = take (get_or l 7 0) (drop 8 l) in
+    map listed_number rows ++ replicate (MAX_DEPTH - length rows) 0
 
 -- ---- arguments and choices
 -- the declaration to stop before, whether to close, the mode, and the rule of width, by the entry: the archive's, or the other
@@ -58,9 +71,9 @@ layout_args archive l = record {
   archive = archive;
 }
 
--- the row to stop before, the width, and the rule
+-- the row to stop before, the width, the rule, and how many rows may be entered
 abbrev pub render_args : List ℕ → RenderArgs
-render_args l = record { stop = get_or l 0 0; width = record { 0 = get_or l 1 0 }; rule = get_or l 2 0 }
+render_args l = record { stop = get_or l 0 0; allotment = get_or l 3 0; width = record { 0 = get_or l 1 0 }; rule = get_or l 2 0 }
 
 -- of a whole file: the width, the mode, and the rule
 abbrev pub file_choice : List ℕ → FileChoice
@@ -76,7 +89,7 @@ told_in given (accepted a) = accepted (given a)
 abbrev pub told_document : ℕ → Document → List ℕ
 told_document declarations d = d.comments ∷ d.tree ∷ declarations ∷ []
 
--- the comments left or the bytes written, and the new state
+-- the comments left, or the bytes written and the rows entered, and the new state, of rendering as far as rows are listed
 abbrev pub told_call : (s b : List ℕ) → CallResult (rules_of s b) → List ℕ
 told_call s b (laid_out t n) =
     n
@@ -90,7 +103,18 @@ told_call s b (laid_out t n) =
     ∷ t.mode
     ∷ t.rule
     ∷ []
-told_call s b (written t n) = n ∷ t.pen.indent ∷ t.pen.next_indent ∷ t.pen.column.0 ∷ t.in_use ∷ t.row ∷ t.width ∷ t.rule ∷ []
+told_call s b (written t n entered) =
+    n
+    ∷ entered
+    ∷ t.pen.indent
+    ∷ t.pen.next_indent
+    ∷ t.pen.column.0
+    ∷ t.in_use
+    ∷ t.row
+    ∷ t.width
+    ∷ t.rule
+    ∷ length t.listed
+    ∷ map row_number t.listed
 
 -- of a whole file the bytes written, the comments left, the rows and the group numbers
 abbrev pub told_file : FileResult → List ℕ

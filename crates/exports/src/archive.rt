@@ -10,7 +10,7 @@ use moves::{back, forward};
 
 // Writes an image of version 1 as one of version 2 to the start of the output. `out` gets the refusal's number and place, or 0 and the bytes of
 // the image that is written.
-pub fn rrufthim_forward_s2(source: &[u8], image: &[u8], output: &mut [u8], out: &mut [u64; 2])
+pub fn rrufthim_forward_s3(source: &[u8], image: &[u8], output: &mut [u8], out: &mut [u64; 2])
     ensures { MovesForward source.now image.now output.old out.old output.new out.new }
 {
     put_answer(out, forward(source, image, output).map(bytes_numbers));
@@ -18,7 +18,7 @@ pub fn rrufthim_forward_s2(source: &[u8], image: &[u8], output: &mut [u8], out: 
 
 // Writes an image of version 2 as one of version 1, with the widths of Unicode 16.0, to the start of the output. `out` gets the refusal's number
 // and place, or 0 and the bytes of the image that is written.
-pub fn rrufthim_back_s2(source: &[u8], image: &[u8], output: &mut [u8], out: &mut [u64; 2])
+pub fn rrufthim_back_s3(source: &[u8], image: &[u8], output: &mut [u8], out: &mut [u64; 2])
     ensures { MovesBack source.now image.now output.old out.old output.new out.new }
 {
     put_answer(out, back(source, image, output).map(bytes_numbers));
@@ -26,7 +26,7 @@ pub fn rrufthim_back_s2(source: &[u8], image: &[u8], output: &mut [u8], out: &mu
 
 // The archive entry: a layout call like `rrufthim_layout`, with the same state, arguments and answer, that reads a comment list by the earlier
 // rule, so that comments may overlap and run backwards. A list of calls may mix both.
-pub fn rrufthim_layout_archived_s2(
+pub fn rrufthim_layout_archived_s3(
     source: &[u8],
     image: &[u8],
     store: &mut [u32],

@@ -21,8 +21,8 @@ ghost use Rattle.exports.specs.Numbers.{told_newlines, told_in, told_document};
 ghost use Rattle.exports.specs.Calls.{ChecksFile, CountsFile, Lays, Renders, FormatsFile};
 
 use crate::numbers::{
-    counted_numbers, file_choice, laid_numbers, layout_args, layout_state, put_answer, render_args,
-    render_state, tallies_from, text_numbers, written_numbers,
+    counted_numbers, file_choice, laid_numbers, layout_args, layout_state, put_answer, put_listed,
+    render_args, render_list, render_state, tallies_from, text_numbers, written_numbers,
 };
 use figures::count_file;
 use file::format_file;
@@ -47,7 +47,7 @@ fn document_numbers(source: &[u8], image: &[u8]) -> Result<[u64; 3], Refused>
 
 // Whether a source and an image are accepted. `out` gets the refusal's number and place, or 0, the number of comments, the tree's offset and
 // the number of declarations.
-pub fn rrufthim_check_s2(source: &[u8], image: &[u8], out: &mut [u64; 4])
+pub fn rrufthim_check_s3(source: &[u8], image: &[u8], out: &mut [u64; 4])
     ensures { ChecksFile source.now image.now out.old out.new }
 {
     put_answer(out, document_numbers(source, image));
@@ -56,7 +56,7 @@ pub fn rrufthim_check_s2(source: &[u8], image: &[u8], out: &mut [u64; 4])
 // A layout call. The state: begun, closed, next declaration, next row, next number, comments placed, position, mode, rule. The arguments:
 // the declaration to stop before, whether to close, the mode, and the rule of width. `out` gets the refusal's number and place, or 0, the
 // comments left and the new state. A comment that starts before the end of the one before is refused by 7 (archive.rt has the archive entry).
-pub fn rrufthim_layout_s2(
+pub fn rrufthim_layout_s3(
     source: &[u8],
     image: &[u8],
     store: &mut [u32],
@@ -71,29 +71,34 @@ pub fn rrufthim_layout_s2(
     put_answer(out, laid.map(laid_numbers));
 }
 
-// A rendering call. The state: indent, next indent, column, marks in use, next row, width, rule. The arguments: the row to stop before,
-// the width, and the rule of width. `out` gets the refusal's number and place, or 0, the bytes written and the new state.
-pub fn rrufthim_render_s2(
+// A rendering call. The state: indent, next indent, column, marks in use, next row, width, rule, how many rows are listed, and up to 256 listed
+// rows. The arguments: the row to stop before, the width, the rule of width, and how many rows may be entered. `out` gets the refusal's number and
+// place, or 0, the bytes written, the rows entered, and the new state as far as rows are listed.
+pub fn rrufthim_render_s3(
     source: &[u8],
     image: &[u8],
     store: &mut [u32],
     marks: &mut [u8],
     output: &mut [u8],
-    state: &[u64; 7],
-    args: &[u64; 3],
-    out: &mut [u64; 9],
+    state: &[u64; 264],
+    args: &[u64; 4],
+    out: &mut [u64; 267],
 )
     ensures { Renders source.now image.now store.old marks.old output.old state.now args.now out.old store.new marks.new output.new out.new }
 {
+    let mut listed = render_list(state);
     let from = render_state(state);
     let to = render_args(args);
-    let written = render_call(source, image, store, marks, output, from, to);
+    let written = render_call(source, image, store, marks, output, &mut listed, from, to);
     put_answer(out, written.map(written_numbers));
+    if let Ok(written) = written {
+        put_listed(out, &listed, written.state.listed_rows);
+    }
 }
 
 // The run of one file: all is laid out and rendered, in rows and marks of its own. The choice: the width, the mode and the rule of width. `out`
 // gets the refusal's number and place, or 0, the bytes written, the comments left, the rows and the group numbers.
-pub fn rrufthim_format_s2(
+pub fn rrufthim_format_s3(
     source: &[u8],
     image: &[u8],
     choice: &[u64; 3],
@@ -108,7 +113,7 @@ pub fn rrufthim_format_s2(
 
 // The newlines of a range of the source, UTF-8 or not. `out` gets how many there are and the place of the last, or the range's end if there is
 // none; none is counted where the range is outside the source, reversed or off a boundary.
-pub fn rrufthim_newlines_s2(source: &[u8], start: u64, end: u64, out: &mut [u64; 2])
+pub fn rrufthim_newlines_s3(source: &[u8], start: u64, end: u64, out: &mut [u64; 2])
     ensures { out.new ≡ sets out.old 0 (told_newlines (count_newlines source.now start end)) }
 {
     let found = count_newlines(source, start as usize, end as usize);
@@ -118,7 +123,7 @@ pub fn rrufthim_newlines_s2(source: &[u8], start: u64, end: u64, out: &mut [u64;
 // Counts a file with those before it: its figures, the new tallies, and wrapped over given. The tallies: how many files, then bytes, newlines,
 // column, given, wrapped, placed, left. `out` gets the refusal's number and place, or 0, the seven figures, the eight tallies, and the
 // fraction's two numbers.
-pub fn rrufthim_count_s2(source: &[u8], image: &[u8], tallies: &[u64; 8], out: &mut [u64; 18])
+pub fn rrufthim_count_s3(source: &[u8], image: &[u8], tallies: &[u64; 8], out: &mut [u64; 18])
     ensures { CountsFile source.now image.now tallies.now out.old out.new }
 {
     let counted = count_file(source, image, tallies_from(tallies));

@@ -7,7 +7,7 @@ use choices::text_columns;
 
 // How many columns a text takes by a rule of width: where widths are supplied, as many as are told. `out` gets the refusal's number and place, or
 // 0 and the columns.
-pub fn rrufthim_columns_s2(text: &[u8], rule: u64, supplied: u64, out: &mut [u64; 2])
+pub fn rrufthim_columns_s3(text: &[u8], rule: u64, supplied: u64, out: &mut [u64; 2])
     ensures { MeasuresText text.now rule supplied out.old out.new }
 {
     let columns = text_columns(text, rule as usize, supplied as usize);

@@ -1,9 +1,10 @@
 // Numbers in and out of the arrays that the exported functions are lent.
 // kept: functions and no `From`: the types are of crates below, which know nothing of C's arrays.
-ghost use Rattle.std.specs.Prelude.{◌≡◌, ◌<◌, [], ◌∷◌, length};
+ghost use Rattle.std.specs.Prelude.{◌≡◌, ◌≤◌, ◌<◌, [], ◌∷◌, length, take};
+ghost use Rattle.std.proofs.lemmas.List.Edits.{sets};
 ghost use Rattle.refusals.specs.Answers.{numbers_of};
 ghost use Rattle.refusals.specs.Reasons.{answer_of};
-ghost use Rattle.exports.specs.Numbers.{layout_state, layout_args, render_state, render_args, file_choice, tallies_from};
+ghost use Rattle.exports.specs.Numbers.{layout_state, layout_args, render_state, render_list, render_args, file_choice, tallies_from};
 ghost use Rattle.readback.specs.Verdict.{told_verdict};
 ghost use Rattle.exports.specs.Given.{laid_numbers, written_numbers, text_numbers, counted_numbers, batch_numbers};
 
@@ -13,10 +14,23 @@ use file::{FileChoice, Text};
 use layout_call::{Laid, LayoutArgs, LayoutState};
 use readback::Verdict;
 use refusals::Refused;
-use render_call::{RenderArgs, RenderState, Written};
+use render_call::{MAX_LISTED, RenderArgs, RenderState, Written};
 use renderer_rules::Pen;
 use rows::units::Columns;
 use tallies::{Figures, Tallies};
+
+// The numbers of a state before its listed rows, and those of an answer before them.
+pub(crate) const STATE_FRONT: usize = 8;
+
+pub(crate) const ANSWER_FRONT: usize = 11;
+
+// How many numbers a state has, and its answer.
+pub(crate) const STATE: usize = STATE_FRONT + MAX_LISTED;
+
+pub(crate) const STATE_ANSWER: usize = ANSWER_FRONT + MAX_LISTED;
+
+// A listed row over it stands for it: no store has its row.
+const NO_LISTED: u64 = 4_294_967_295;
 
 // A flag is yes for every number but 0.
 pub(crate) fn layout_state(from: &[u64; 9]) -> LayoutState
@@ -47,7 +61,7 @@ pub(crate) fn layout_args(from: &[u64; 4], archive: bool) -> LayoutArgs
     }
 }
 
-pub(crate) fn render_state(from: &[u64; 7]) -> RenderState
+pub(crate) fn render_state(from: &[u64; STATE]) -> RenderState
     ensures { result ≡ render_state from.now }
 {
     RenderState {
@@ -60,14 +74,28 @@ pub(crate) fn render_state(from: &[u64; 7]) -> RenderState
         row: from[4] as usize,
         width: Columns(from[5] as usize),
         rule: from[6] as usize,
+        listed_rows: from[7] as usize,
     }
 }
 
-pub(crate) fn render_args(from: &[u64; 3]) -> RenderArgs
+// Its listed rows, as many as it counts.
+pub(crate) fn render_list(from: &[u64; STATE]) -> [u32; MAX_LISTED]
+    ensures { result ≡ render_list from.now }
+{
+    let count = from[7].min(MAX_LISTED as u64) as usize;
+    let mut listed = [0; MAX_LISTED];
+    for place in 0..count {
+        listed[place] = from[STATE_FRONT + place].min(NO_LISTED) as u32;
+    }
+    listed
+}
+
+pub(crate) fn render_args(from: &[u64; 4]) -> RenderArgs
     ensures { result ≡ render_args from.now }
 {
     RenderArgs {
         stop: from[0] as usize,
+        allotment: from[3] as usize,
         width: Columns(from[1] as usize),
         rule: from[2] as usize,
     }
@@ -119,6 +147,16 @@ pub(crate) fn put_answer<const N: usize>(out: &mut [u64], answer: Result<[u64; N
     }
 }
 
+// Puts an accepted state's listed rows behind an answer's other numbers.
+pub(crate) fn put_listed(out: &mut [u64; STATE_ANSWER], listed: &[u32; MAX_LISTED], count: usize)
+    requires few { count ≤ length listed.now }
+    ensures { out.new ≡ sets out.old ANSWER_FRONT (take count listed.now) }
+{
+    for place in 0..count {
+        out[ANSWER_FRONT + place] = u64::from(listed[place]);
+    }
+}
+
 // What a layout call that is accepted tells.
 pub(crate) fn laid_numbers(laid: Laid) -> [u64; 10]
     ensures { result ≡ laid_numbers laid }
@@ -138,13 +176,14 @@ pub(crate) fn laid_numbers(laid: Laid) -> [u64; 10]
     ]
 }
 
-// What a rendering call that is accepted tells.
-pub(crate) fn written_numbers(written: Written) -> [u64; 8]
+// What a rendering call that is accepted tells, before its listed rows.
+pub(crate) fn written_numbers(written: Written) -> [u64; 10]
     ensures { result ≡ written_numbers written }
 {
     let state = written.state;
     [
         written.bytes.0 as u64,
+        written.entered as u64,
         state.pen.indent as u64,
         state.pen.next_indent as u64,
         state.pen.column.0 as u64,
@@ -152,6 +191,7 @@ pub(crate) fn written_numbers(written: Written) -> [u64; 8]
         state.row as u64,
         state.width.0 as u64,
         state.rule as u64,
+        state.listed_rows as u64,
     ]
 }
 

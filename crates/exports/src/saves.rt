@@ -7,7 +7,7 @@ use batch::format_batch;
 
 // Formats the files of a buffer of frames: the table gets three numbers a file, the output the texts in a row. The choice: the width, the
 // mode and the rule of width. `out` gets the refusal's number and place, or 0, the number of files and the bytes of their texts.
-pub fn rrufthim_batch_s2(
+pub fn rrufthim_batch_s3(
     frames: &[u8],
     choice: &[u64; 3],
     table: &mut [u32],

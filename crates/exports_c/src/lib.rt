@@ -15,14 +15,14 @@ ghost use Rattle.exports.specs.Archive.{MovesForward, MovesBack};
 ghost use Rattle.exports.specs.Verdict.{SaysVerdict};
 
 #[unsafe(no_mangle)]
-pub extern "C" fn rrufthim_check_s2(source: &[u8], image: &[u8], out: &mut [u64; 4])
+pub extern "C" fn rrufthim_check_s3(source: &[u8], image: &[u8], out: &mut [u64; 4])
     ensures { ChecksFile source.now image.now out.old out.new }
 {
-    exports::rrufthim_check_s2(source, image, out);
+    exports::rrufthim_check_s3(source, image, out);
 }
 
 #[unsafe(no_mangle)]
-pub extern "C" fn rrufthim_layout_s2(
+pub extern "C" fn rrufthim_layout_s3(
     source: &[u8],
     image: &[u8],
     store: &mut [u32],
@@ -32,27 +32,27 @@ pub extern "C" fn rrufthim_layout_s2(
 )
     ensures { Lays false source.now image.now store.old state.now args.now out.old store.new out.new }
 {
-    exports::rrufthim_layout_s2(source, image, store, state, args, out);
+    exports::rrufthim_layout_s3(source, image, store, state, args, out);
 }
 
 #[unsafe(no_mangle)]
-pub extern "C" fn rrufthim_render_s2(
+pub extern "C" fn rrufthim_render_s3(
     source: &[u8],
     image: &[u8],
     store: &mut [u32],
     marks: &mut [u8],
     output: &mut [u8],
-    state: &[u64; 7],
-    args: &[u64; 3],
-    out: &mut [u64; 9],
+    state: &[u64; 264],
+    args: &[u64; 4],
+    out: &mut [u64; 267],
 )
     ensures { Renders source.now image.now store.old marks.old output.old state.now args.now out.old store.new marks.new output.new out.new }
 {
-    exports::rrufthim_render_s2(source, image, store, marks, output, state, args, out);
+    exports::rrufthim_render_s3(source, image, store, marks, output, state, args, out);
 }
 
 #[unsafe(no_mangle)]
-pub extern "C" fn rrufthim_format_s2(
+pub extern "C" fn rrufthim_format_s3(
     source: &[u8],
     image: &[u8],
     choice: &[u64; 3],
@@ -61,18 +61,18 @@ pub extern "C" fn rrufthim_format_s2(
 )
     ensures { FormatsFile source.now image.now choice.now output.old out.old output.new out.new }
 {
-    exports::rrufthim_format_s2(source, image, choice, output, out);
+    exports::rrufthim_format_s3(source, image, choice, output, out);
 }
 
 #[unsafe(no_mangle)]
-pub extern "C" fn rrufthim_newlines_s2(source: &[u8], start: u64, end: u64, out: &mut [u64; 2])
+pub extern "C" fn rrufthim_newlines_s3(source: &[u8], start: u64, end: u64, out: &mut [u64; 2])
     ensures { out.new ≡ sets out.old 0 (told_newlines (count_newlines source.now start end)) }
 {
-    exports::rrufthim_newlines_s2(source, start, end, out);
+    exports::rrufthim_newlines_s3(source, start, end, out);
 }
 
 #[unsafe(no_mangle)]
-pub extern "C" fn rrufthim_count_s2(
+pub extern "C" fn rrufthim_count_s3(
     source: &[u8],
     image: &[u8],
     tallies: &[u64; 8],
@@ -80,18 +80,18 @@ pub extern "C" fn rrufthim_count_s2(
 )
     ensures { CountsFile source.now image.now tallies.now out.old out.new }
 {
-    exports::rrufthim_count_s2(source, image, tallies, out);
+    exports::rrufthim_count_s3(source, image, tallies, out);
 }
 
 #[unsafe(no_mangle)]
-pub extern "C" fn rrufthim_write_s2(steps: &[u8], output: &mut [u8], out: &mut [u64; 2])
+pub extern "C" fn rrufthim_write_s3(steps: &[u8], output: &mut [u8], out: &mut [u64; 2])
     ensures { WritesImage steps.now output.old out.old output.new out.new }
 {
-    exports::generator::rrufthim_write_s2(steps, output, out);
+    exports::generator::rrufthim_write_s3(steps, output, out);
 }
 
 #[unsafe(no_mangle)]
-pub extern "C" fn rrufthim_steps_s2(
+pub extern "C" fn rrufthim_steps_s3(
     source: &[u8],
     image: &[u8],
     output: &mut [u8],
@@ -99,11 +99,11 @@ pub extern "C" fn rrufthim_steps_s2(
 )
     ensures { ListsSteps source.now image.now output.old out.old output.new out.new }
 {
-    exports::generator::rrufthim_steps_s2(source, image, output, out);
+    exports::generator::rrufthim_steps_s3(source, image, output, out);
 }
 
 #[unsafe(no_mangle)]
-pub extern "C" fn rrufthim_batch_s2(
+pub extern "C" fn rrufthim_batch_s3(
     frames: &[u8],
     choice: &[u64; 3],
     table: &mut [u32],
@@ -112,18 +112,18 @@ pub extern "C" fn rrufthim_batch_s2(
 )
     ensures { FormatsBatch frames.now choice.now table.old output.old out.old table.new output.new out.new }
 {
-    exports::saves::rrufthim_batch_s2(frames, choice, table, output, out);
+    exports::saves::rrufthim_batch_s3(frames, choice, table, output, out);
 }
 
 #[unsafe(no_mangle)]
-pub extern "C" fn rrufthim_columns_s2(text: &[u8], rule: u64, supplied: u64, out: &mut [u64; 2])
+pub extern "C" fn rrufthim_columns_s3(text: &[u8], rule: u64, supplied: u64, out: &mut [u64; 2])
     ensures { MeasuresText text.now rule supplied out.old out.new }
 {
-    exports::measures::rrufthim_columns_s2(text, rule, supplied, out);
+    exports::measures::rrufthim_columns_s3(text, rule, supplied, out);
 }
 
 #[unsafe(no_mangle)]
-pub extern "C" fn rrufthim_layout_archived_s2(
+pub extern "C" fn rrufthim_layout_archived_s3(
     source: &[u8],
     image: &[u8],
     store: &mut [u32],
@@ -133,11 +133,11 @@ pub extern "C" fn rrufthim_layout_archived_s2(
 )
     ensures { Lays true source.now image.now store.old state.now args.now out.old store.new out.new }
 {
-    exports::archive::rrufthim_layout_archived_s2(source, image, store, state, args, out);
+    exports::archive::rrufthim_layout_archived_s3(source, image, store, state, args, out);
 }
 
 #[unsafe(no_mangle)]
-pub extern "C" fn rrufthim_forward_s2(
+pub extern "C" fn rrufthim_forward_s3(
     source: &[u8],
     image: &[u8],
     output: &mut [u8],
@@ -145,11 +145,11 @@ pub extern "C" fn rrufthim_forward_s2(
 )
     ensures { MovesForward source.now image.now output.old out.old output.new out.new }
 {
-    exports::archive::rrufthim_forward_s2(source, image, output, out);
+    exports::archive::rrufthim_forward_s3(source, image, output, out);
 }
 
 #[unsafe(no_mangle)]
-pub extern "C" fn rrufthim_back_s2(
+pub extern "C" fn rrufthim_back_s3(
     source: &[u8],
     image: &[u8],
     output: &mut [u8],
@@ -157,12 +157,12 @@ pub extern "C" fn rrufthim_back_s2(
 )
     ensures { MovesBack source.now image.now output.old out.old output.new out.new }
 {
-    exports::archive::rrufthim_back_s2(source, image, output, out);
+    exports::archive::rrufthim_back_s3(source, image, output, out);
 }
 
 #[unsafe(no_mangle)]
-pub extern "C" fn rrufthim_reads_back_s2(source: &[u8], image: &[u8], out: &mut [u64; 3])
+pub extern "C" fn rrufthim_reads_back_s3(source: &[u8], image: &[u8], out: &mut [u64; 3])
     ensures { SaysVerdict source.now image.now out.old out.new }
 {
-    exports::verdict::rrufthim_reads_back_s2(source, image, out);
+    exports::verdict::rrufthim_reads_back_s3(source, image, out);
 }

@@ -22,7 +22,8 @@ use Rattle.cut_rule.specs.States as states
 use Rattle.cut_rule.specs.Tests as tests
 use Rattle.cut_rule.specs.Rules as rules
 use Rattle.cut_rule.specs.States.{layout_fresh, render_fresh}
-use Rattle.cut_rule.specs.Parts.{with_cleared, rule_line, width_line, before_marks}
+use Rattle.cut_rule.specs.Limits.{MAX_ALLOTMENT}
+use Rattle.cut_rule.specs.Parts.{read_from, with_cleared, rule_line, width_line, before_marks}
 use Rattle.cut_rule.proofs.Answers.{LaidBy, laid_by, written_by}
 use Rattle.whole_run.specs.Parts.{other_rule, parts_of, widest_drawn}
 use Rattle.whole_run.specs.Built as built_by
@@ -31,7 +32,7 @@ use Rattle.whole_run.specs.Demands.{rules_of, closing_at}
 use Rattle.whole_run.specs.File.{mode_line, file_rows, file_marks, file_before_rows, laid_refusal, refusal_in, file_refusal, file_result}
 use Rattle.whole_run.specs.File.{store_left, marks_left, output_left}
 use Rattle.whole_run.proofs.FileTable.{stops_laid, stops_whole}
-use Rattle.whole_run.proofs.File.{state_due, rendered_due, layout_answer_due, layout_store_due}
+use Rattle.whole_run.proofs.File.{state_due, rendered_due, entered_due, layout_answer_due, layout_store_due}
 use Rattle.whole_run.proofs.File.{render_early_due, render_answer_due, render_marks_due, render_output_due, render_widest_due}
 use Rattle.layout_call.specs.Calls as layouts
 use Rattle.layout_call.specs.Whole.{LayoutCalled}
@@ -159,7 +160,7 @@ module _ (s b : List ℕ) (c : FileChoice) where
           laid_refused why store2 (refused_by laid _ (refusal why) (ap (layouts.laying_answer s b) (sym e) ∙ layout_answer_lem)) layout_left
 
       -- ---- the rendering call
-      module _ (t : Laid) (is : r ≡ Ok t) (pen : RenderState) (blank : renders.to_state pen ≡ render_fresh) where
+      module _ (t : Laid) (is : r ≡ Ok t) (pen : RenderState) (listed : List ℕ) (blank : renders.to_state pen listed ≡ render_fresh) where
         laid_out_lem : LaidBy (rules_of s b) laid (layouts.to_state t.state) t.left (state_due s b c) (file_result s b c).left
         laid_out_lem = laid_by (rules_of s b) laid _ t.left (state_due s b c) _ (ap (layouts.laying_answer s b) (sym is) ∙ layout_answer_lem)
 
@@ -168,23 +169,25 @@ module _ (s b : List ℕ) (c : FileChoice) where
 
         -- up to a row, at the width, by the rule
         abbrev to : ℕ → RenderArgs
-        to row = record { stop = row; width = record { 0 = c.width }; rule = c.rule }
+        to row = record { stop = row; allotment = MAX_ALLOTMENT; width = record { 0 = c.width }; rule = c.rule }
 
         -- what the call had is what is due
         same : {A : Type 0} (f : states.RenderState → RenderArgs → List ℕ → A)
-            → f (renders.to_state pen) (to t.state.row) store2 ≡ f render_fresh (to (rows_due s b c)) (store_left s b c store)
+            → f (renders.to_state pen listed) (to t.state.row) store2 ≡ f render_fresh (to (rows_due s b c)) (store_left s b c store)
         same f = λ i. f (blank i) (to (to_row i)) (layout_left i)
 
         -- the rows that the layout call leaves are right
-        pub drawn_starts : Checked s b pen (to t.state.row) store2 marks
+        pub drawn_starts : Checked s b (renders.to_state pen listed) (to t.state.row) store2 marks
         drawn_starts = record {
           passes =
               same (λ x q rows. first (before_marks (parts_of s b) (renders.to_args q 0) x rows marks))
               ∙ render_early_due s b c store marks [] laid_out_lem.passes;
         }
 
-        module _ (o : Result Drawn Refused) (store3 marks2 out2 : List ℕ) (drew : Draws s b pen (to t.state.row) store2 marks out o store3 marks2 out2) where
-          drawn_answer : renders.rendering_answer s b (renders.rendering_of o) ≡ answer_by table (written (rendered_due s b c) (file_result s b c).bytes)
+        module _ (o : Result Drawn Refused) (store3 marks2 out2 listed2 : List ℕ)
+            (drew : Draws s b (renders.to_state pen listed) (to t.state.row) store2 marks out listed o store3 marks2 out2 listed2) where
+          drawn_answer : renders.rendering_answer s b listed2 (renders.rendering_of o)
+              ≡ answer_by table (written (rendered_due s b c) (file_result s b c).bytes (entered_due s b c store))
           drawn_answer =
               drew.called.answer
               ∙ same (λ x q rows. render_answer (rules_of s b) (renders.to_args q (length out)) x rows marks)
@@ -208,8 +211,8 @@ module _ (s b : List ℕ) (c : FileChoice) where
           -- the greatest column of a call's rows
           abbrev widest_in : states.RenderState → RenderArgs → List ℕ → ℕ
           widest_in x q rows =
-              widest_drawn s b x (renders.goes_to q)
-              (with_cleared (parts_of s b) (take x.in_use marks) ((parts_of s b).needed rows x.row q.stop))
+              widest_drawn s b x (renders.goes_to q) q.allotment
+              (with_cleared (parts_of s b) (take x.in_use marks) ((parts_of s b).needed rows (read_from x) q.stop))
               rows
 
           widest_same : renders.widest_of o ≡ unless table 0 (column_due s b c)
@@ -221,7 +224,7 @@ module _ (s b : List ℕ) (c : FileChoice) where
           pub drawn_refused : (why : Refused) → o ≡ Err why → RunsFile s b c store marks out (Err why) store3 marks2 out2
           drawn_refused why e =
               let r : table ≡ Some (refusal why) =
-              refused_by table _ (refusal why) (ap (λ (x : Result Drawn Refused). renders.rendering_answer s b (renders.rendering_of x)) (sym e)
+              refused_by table _ (refusal why) (ap (λ (x : Result Drawn Refused). renders.rendering_answer s b listed2 (renders.rendering_of x)) (sym e)
               ∙ drawn_answer)
               in
               record {
@@ -239,8 +242,8 @@ module _ (s b : List ℕ) (c : FileChoice) where
               marks2
               out2
           drawn_formats u e =
-              let w = written_by (rules_of s b) table (renders.to_state u.written.state) u.written.bytes.0 (rendered_due s b c) _
-              (ap (λ (x : Result Drawn Refused). renders.rendering_answer s b (renders.rendering_of x)) (sym e) ∙ drawn_answer)
+              let w = written_by (rules_of s b) table (renders.to_state u.written.state listed2) u.written.bytes.0 u.written.entered (rendered_due s b c) _ _
+              (ap (λ (x : Result Drawn Refused). renders.rendering_answer s b listed2 (renders.rendering_of x)) (sym e) ∙ drawn_answer)
               in
               let number : t.state.number ≡ (built s b c).taken = ap (λ (x : states.LayoutState). x.cursor.number) laid_out_lem.state in
               record {

@@ -3,7 +3,7 @@
 
 pub mod reply;
 
-ghost use Rattle.std.specs.Prelude.{◌≡◌, false, ◌*◌, replicate};
+ghost use Rattle.std.specs.Prelude.{◌≡◌, false, ℕ, ◌*◌, List, replicate};
 ghost use Rattle.rows.specs.Places.{PLACES};
 ghost use Rattle.cut_rule.specs.States.{render_fresh};
 ghost use Rattle.layout_call.specs.Steps.{RuleFits, Reads};
@@ -21,7 +21,7 @@ use layout_call::{LayoutArgs, LayoutState, layout_accepted};
 use refusals::{Reason, Refused};
 use render_call::call::Call;
 use render_call::width::width_fits;
-use render_call::{RenderArgs, RenderState};
+use render_call::{MAX_LISTED, RenderArgs, RenderState};
 use rows::places::PLACES;
 use rows::units::{Bytes, Columns};
 use widths::rules::SUPPLIED;
@@ -72,7 +72,7 @@ pub struct Run {
 
 /// Nothing is rendered yet.
 pub fn render_fresh() -> RenderState
-    ensures { rendered_state result ≡ render_fresh }
+    ensures { (listed : List ℕ) → rendered_state result listed ≡ render_fresh }
 {
     RenderState::default()
 }
@@ -126,11 +126,13 @@ pub fn run_file(
         state: render_fresh(),
         args: RenderArgs {
             stop: laid.state.row,
+            allotment: usize::MAX,
             width: choice.width,
             rule: choice.rule,
         },
     };
-    let drawn = call.render_checked(store, marks, out)?;
+    let mut listed = [0; MAX_LISTED];
+    let drawn = call.render_checked(store, marks, out, &mut listed)?;
     Ok(Run {
         text: Text {
             bytes: drawn.written.bytes,

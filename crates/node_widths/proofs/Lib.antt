@@ -3,3 +3,4 @@ pub mod Renders
 pub mod Summed
 pub mod Turned
 pub mod TurnedNests
+pub mod StopsMeasured

@@ -56,22 +56,22 @@ module _ (f : Text → ℕ) where
     musts_same (n then ns) = ap₂ ◌||◌ (must_same n) (musts_same ns)
 
 module _ (max : ℕ) (f g : Text → ℕ) (bytes : Text → List ℕ) where
-  abbrev p : Page
+  abbrev pub p : Page
   p = page_by max f bytes
 
-  abbrev q : Page
+  abbrev pub q : Page
   q = page_by max g bytes
 
-  group_same : (ns : Nodes) (r : Renderer) → group_wraps p ns r ≡ group_wraps q (measured_all f ns) r
+  pub group_same : (ns : Nodes) (r : Renderer) → group_wraps p ns r ≡ group_wraps q (measured_all f ns) r
   unfolding group_wraps wraps
   group_same ns r =
       ap₂ (λ (m : Bool) (w : ℕ). m || ltb max (virtual_column r.pen + w)) (musts_same f ns) (widths_same f g r.marks ns)
 
-  trailing_same : (e a : Nodes) (r : Renderer) → trailing_call p e a r ≡ trailing_call q (measured_all f e) (measured_all f a) r
+  pub trailing_same : (e a : Nodes) (r : Renderer) → trailing_call p e a r ≡ trailing_call q (measured_all f e) (measured_all f a) r
   unfolding trailing_call
   trailing_same e a r = rw (musts_same f e, musts_same f a, widths_same f g r.marks e, widths_same f g r.marks a)
 
-  callee_same : (t : Bool) (e a : Nodes) (r : Renderer) → callee_wraps p t e a r ≡ callee_wraps q t (measured_all f e) (measured_all f a) r
+  pub callee_same : (t : Bool) (e a : Nodes) (r : Renderer) → callee_wraps p t e a r ≡ callee_wraps q t (measured_all f e) (measured_all f a) r
   unfolding callee_wraps wraps
   callee_same t e a r = rw (group_same e r, widths_same f g r.marks e, widths_same f g r.marks a)
 
@@ -85,7 +85,7 @@ module _ (max : ℕ) (f g : Text → ℕ) (bytes : Text → List ℕ) where
   mutual
     unfolding measured render_node
 
-    node_same : (n : Node) (w : Bool) (r : Renderer) → render_node p n w r ≡ render_node q (measured f n) w r
+    pub node_same : (n : Node) (w : Bool) (r : Renderer) → render_node p n w r ≡ render_node q (measured f n) w r
     node_same (group n ns) w r =
         nodes_same ns (group_wraps p ns r) (insert (group_wraps p ns r) n r)
         ∙ ap (λ (t : Bool). render_nodes q (measured_all f ns) t (insert t n r)) (group_same ns r)
@@ -115,7 +115,7 @@ module _ (max : ℕ) (f g : Text → ℕ) (bytes : Text → List ℕ) where
         ∙ ap (λ (o : Bool). called callee inner args n k trails o r) (callee_same trails e a r)
         ∙ ap (λ (t : Bool). called callee inner args n k t (callee_wraps q t (measured_all f e) (measured_all f a) r) r) (trailing_same e a r)
 
-    nodes_same : (ns : Nodes) (w : Bool) (r : Renderer) → render_nodes p ns w r ≡ render_nodes q (measured_all f ns) w r
+    pub nodes_same : (ns : Nodes) (w : Bool) (r : Renderer) → render_nodes p ns w r ≡ render_nodes q (measured_all f ns) w r
     nodes_same none w r = refl
     nodes_same (n then ns) w r = nodes_same ns w (render_node p n w r) ∙ ap (render_nodes q (measured_all f ns) w) (node_same n w r)
 

@@ -29,6 +29,9 @@ number_of reason.Frames = 18
 number_of reason.BatchNeeds = 19
 number_of reason.Rule = 20
 number_of reason.StoredWidth = 21
+number_of reason.Allotment = 22
+number_of reason.Listed = 23
+number_of reason.Formula = 24
 
 abbrev pub refusal : Refused → Refusal
 refusal r = record { number = number_of r.reason; place = r.place }

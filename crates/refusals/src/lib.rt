@@ -31,13 +31,16 @@ pub enum Reason {
     BatchNeeds = 19,
     Rule = 20,
     StoredWidth = 21,
+    Allotment = 22,
+    Listed = 23,
+    Formula = 24,
 }
 
 impl Reason {
     pub fn number(self) -> u8
         ensures { result ≡ number_of self }
     {
-        // kept: an enum's number is got by a cast alone; a table of the 21 would say them twice.
+        // kept: an enum's number is got by a cast alone; a table of the 24 would say them twice.
         self as u8
     }
 

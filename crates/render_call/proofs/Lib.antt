@@ -1,8 +1,10 @@
 pub mod Tests
-pub mod Whole
 pub mod Accepted
+pub mod Whole
 pub mod Early
-pub mod Starts
+pub mod Resumes
+pub mod Opening
+pub mod Held
 pub mod Ran
 pub mod Finish
 pub mod Owned

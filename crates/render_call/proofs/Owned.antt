@@ -100,6 +100,14 @@ module _ (x : ℕ) (s : List ℕ) where
           (rec (second_in v i (end_in v i j)) (end_in v i j) (λ k p q. o k (from_second v i (end_in v i j) k p) (in_end v i j k h q))))
           (rec (end_in v i j) j (λ k p q. o k (from_end v i j k p) q))
 
-  pub nodes_other : (n i j : ℕ) → owns x n s i ≡ false → j ≤ i + n → names_in x (nodes_at v i j) ≡ false
+  pub nodes_other : (n from i j : ℕ) → owns x n s from ≡ false → from ≤ i → j ≤ from + n → names_in x (nodes_at (view_of s) i j) ≡ false
   unfolding nodes_at
-  nodes_other n i j e h = decode_other (j - i) i j (λ k p q. each_other x n s i e k p (omega arith))
+  nodes_other n from i j e l h = decode_other (j - i) i j (λ k p q. each_other x n s from e k (omega arith) (omega arith))
+
+  -- nor of the arguments of a `Call`
+  pub second_other : (n from i : ℕ) → owns x n s from ≡ false → from ≤ i → i < from + n → cell s i 0 ≡ 11 → eqb x (cell s i 2) ≡ false
+  unfolding has
+  second_other n from i e l h k =
+      let a = each_other x n s from e i l h in
+      let b = has_first (eqb x (cell s i 1)) (eqb x (cell s i 2) || false) (rw k at a) in
+      (has_first (eqb x (cell s i 2)) false b.1).0

@@ -2,169 +2,173 @@
 -- Assumes nothing.
 use mathlib.Core.Path.{◌≡◌, refl, sym, ap, subst, ◌∙◌}
 use mathlib.Core.Bool.{true}
-use mathlib.Core.List.{List, []}
+use mathlib.Core.List.{List, [], map}
 use Prim.Native.Nat.{ℕ, ◌+◌, ◌*◌, ◌-◌, ◌≤◌, ◌<◌, max}
 use native.Mathlib.Omega.{arith}
-use lib.ListN.{length, get_or, drop}
-use Rattle.rows.specs.Places.{PLACES}
-use Rattle.rows.specs.View.{view_of, nodes_at}
-use Rattle.rows.specs.declared.units.Bytes.{Bytes}
-use Rattle.renderer_rules.specs.Renderer.{fresh_renderer, render_nodes}
-use Rattle.node_widths.specs.Measured.{ascii_columns, rule_page}
-use Rattle.renderer_rules.proofs.Most.{text_most}
-use Rattle.renderer.specs.Run.{Starting, Ended}
-use Rattle.renderer.specs.declared.writing.Writing.{Writing}
-use Rattle.cut_rule.specs.Parts as cut
-use Rattle.marks.specs.Marks.{marks_needed, clear_from, Held, held, put_aside, put_back}
-use Rattle.row_widths.specs.Passes.{Unturned}
-use Rattle.row_widths.proofs.Right.{unturned}
-use Rattle.render_by_rule.proofs.Aside.{aside_unturned}
-use Rattle.whole_run.specs.Parts.{renderer_of}
 use Rattle.std.specs.Prelude.{Result, Ok, Err}
+use lib.ListN.{length, get_or, drop}
+use Rattle.rows.specs.Limits.{MAX_DEPTH}
+use Rattle.rows.specs.Places.{PLACES}
+use Rattle.rows.specs.View.{View, view_of, nodes_at}
+use Rattle.rows.specs.declared.units.Bytes.{Bytes}
+use Rattle.renderer_rules.specs.declared.Frame.{Frame}
+use Rattle.renderer_rules.specs.Renderer.{Page, Renderer, render_nodes}
+use Rattle.renderer_rules.specs.Frames.{part_limit, wrap_at}
+use Rattle.renderer_rules.specs.Stops.{listed_rows, rest, meaning}
+use Rattle.node_widths.specs.Measured.{ascii_columns}
+use Rattle.renderer_rules.proofs.Most.{text_most}
+use Rattle.listed_rows.specs.Numbers.{row_number}
+use Rattle.cut_rule.specs.Run.{write_front}
+use Rattle.cut_rule.specs.States as states
+use Rattle.cut_rule.specs.Parts.{read_from}
+use Rattle.renderer_rules.specs.Listed.{reads_from}
+use Rattle.marks.specs.Marks.{marks_needed, clear_from, held, put_aside, put_back}
+use Rattle.whole_run.specs.Parts.{renderer_of, page, open_rows}
+use Rattle.whole_run.proofs.StopsKeep.{stop_keeps}
+use Rattle.whole_run.proofs.StopsGrow.{AnyNumber, Grows, any_nodes, text_kept}
 use Rattle.refusals.specs.declared.Reason.TheVariants as reason
 use Rattle.refusals.specs.declared.Refused.{Refused}
 use Rattle.refusals.specs.Reasons.{refusal_in}
-use Rattle.render_call.specs.Calls.{to_state, early_refusal}
-use Rattle.render_call.specs.Whole.{RenderCalled, Draws, Counted, Passing, Fitting, Takes, most_of}
-use Rattle.render_call.specs.declared.RenderState.{RenderState}
+use Rattle.render_call.specs.Calls.{goes_to, early_refusal}
+use Rattle.render_call.specs.Whole.{RenderCalled, Draws, Counted, Passing, Fitting, Runnable, Halts, most_of}
 use Rattle.render_call.specs.declared.RenderArgs.{RenderArgs}
-use Rattle.render_call.proofs.Accepted.{Accepted, accepted}
+use Rattle.render_call.specs.declared.run.Halt.{Halt}
+use Rattle.render_call.proofs.Accepted.{Accepted, accepted, in_order, nests, runnable}
+use Rattle.render_call.proofs.Resumes.{low, at_open, all_lie}
 use Rattle.render_call.proofs.Early.{refused_early}
-use Rattle.render_call.proofs.Starts.{nested, starts, places_right}
 use Rattle.render_call.proofs.Ran.{marks_in_use}
 use Rattle.render_call.proofs.Dry as dry
-use Rattle.render_call.proofs.Finish.{same, finished}
-use Rattle.render_call.proofs.Whole.{bytes, ends_early, ends_full}
+use Rattle.render_call.proofs.Finish.{size_is, finished}
+use Rattle.render_call.proofs.Whole.{ends_early, ends_full}
 
-module _ (source image : List ℕ) (state : RenderState) (args : RenderArgs) (store marks : List ℕ) (h : Passing source image state args store marks) where
-  may : Accepted source image state args store marks
-  may = accepted source image state args store marks h.passes
+-- where no row is open, all up to the stop is rendered as nodes
+no_open : (v : View) (pg : Page) (stop : ℕ) (fs : List Frame) (d i : ℕ) (s : Renderer) → d ≡ 0
+    → meaning v pg stop fs d i s ≡ render_nodes pg (nodes_at v i stop) true s
+unfolding meaning rest part_limit wrap_at
+no_open v pg stop fs d i s e = ap (λ (n : ℕ). meaning v pg stop fs n i s) e
+
+module _ (source image : List ℕ) (z : states.RenderState) (args : RenderArgs) (store marks : List ℕ) (h : Passing source image z args store marks) where
+  pub may : Accepted source image z args store marks
+  may = accepted source image z args store marks h.passes
 
   pub rows_within : args.stop * PLACES ≤ length store
   rows_within = may.within
 
-  -- its rows may be turned for the time of a run
-  pub rows_unturned : Unturned store state.row args.stop
-  rows_unturned = unturned source image store state.row args.stop (places_right source image state args store marks may)
-
   -- ---- a sum over the rows shows that the text has room
-  pub fits_most : (out : List ℕ) (n : ℕ) → n ≡ most_of state args store → n ≤ length out → Fitting source image state args store marks out
-  fits_most out n f l =
+  pub fits_most : (out : List ℕ) (n : ℕ) → z.listed ≡ [] → n ≡ most_of z args store → n ≤ length out → Fitting source image z args store marks out
+  fits_most out n e f l =
+      let v = view_of store in
+      let pg = page (goes_to args).choice source image in
+      let s = renderer_of z.pen (marks_in_use source image z args store marks may) in
+      let x = runnable source image z args store marks may in
+      let at = at_open source image z args store x in
+      let k =
+      stop_keeps v pg AnyNumber Grows (text_kept pg) (read_from z) args.stop (λ i j a b. any_nodes (nodes_at v i j)) (λ i a b c. tt) (open_rows v z)
+      (length z.listed) z.row args.allotment s at.under at.low (low source image z args store x) (all_lie source image z args store x)
+      in
       let m =
-      text_most args.width.0 (ascii_columns args.rule source image) source image store state.row args.stop 0 (state.pen.indent + state.pen.next_indent)
-      (nested source image state args store marks may).nests
+      text_most args.width.0 (ascii_columns args.rule source image) source image store (read_from z) args.stop 0 (z.pen.indent + z.pen.next_indent)
+      (nests source image z args store marks may)
       true
-      (renderer_of (to_state state).pen (marks_in_use source image state args store marks may.ahead))
+      s
       refl
       refl
       in
-      record { passing = h; room = below m f l }
+      let none : length z.listed ≡ 0 = ap length e in
+      let same = ap (λ (r : Renderer). length r.buf) (no_open v pg args.stop (open_rows v z) (length z.listed) z.row s none) in
+      let row : read_from z ≡ z.row = ap (λ ls. reads_from ls z.row) e in
+      let most = subst (λ (i : ℕ). length (render_nodes pg (nodes_at v i args.stop) true s).buf ≤ most_of z args store) row m in
+      record { passing = h; room = below k.behind.text same most f l }
     where
-      below : {a b n : ℕ} → a ≤ b → n ≡ b → n ≤ length out → a ≤ length out
-      below p q r = omega arith
+      below : {a b c d n : ℕ} → a ≤ b → b ≡ c → c ≤ d → n ≡ d → n ≤ length out → a ≤ length out
+      below p q r s t = omega arith
 
   -- ---- the dry run
-  module _ (rows2 marks2 : List ℕ) (e : held rows2 marks2 ≡ put_aside (args.stop - state.row) state.in_use (held store marks) state.row) where
-    pub dry_starts : (p : Writing) → Takes state p → Starting rows2 state.row args.stop p
-    dry_starts p k =
-        starts source image state args store marks may rows2 (dry.aside_nests source image state args store marks may rows2 marks2 e) p k
+  module _ (rows2 marks2 : List ℕ) (e : held rows2 marks2 ≡ put_aside (args.stop - read_from z) z.in_use (held store marks) (read_from z)) where
+    pub dry_runs : Runnable source image z args rows2
+    dry_runs = dry.aside_runs source image z args store marks may rows2 marks2 e
 
-    pub dry_unturned : Unturned rows2 state.row args.stop
-    dry_unturned =
-        rw (ap (λ (h : Held). h.rows) e)
-        (aside_unturned (args.stop - state.row) state.in_use (held store marks) state.row state.row args.stop rows_unturned)
-
-    pub back_within : (state.row ≤ args.stop) × (args.stop * PLACES ≤ length rows2)
+    pub back_within : (read_from z ≤ args.stop) × (args.stop * PLACES ≤ length rows2)
     back_within =
-        let l = dry.aside_rows source image state args store marks may rows2 marks2 e in
+        let l = dry.aside_rows source image z args store marks may rows2 marks2 e in
         let w = may.within in
-        (may.ahead, omega arith)
+        (in_order source image z args store marks may, omega arith)
 
-    pub dry_ends : (p q : Writing) → Takes state p → ((k : ℕ) → get_or marks k 0 < 256) → (marks3 out3 rows4 marks4 : List ℕ)
-        → Ended 0 (render_nodes (rule_page args.width.0 args.rule source image) (nodes_at (view_of rows2) state.row args.stop) true
-        (fresh_renderer p.pen marks2))
-        [] marks3 out3 q
-        → held rows4 marks4 ≡ put_back (args.stop - state.row) (held rows2 marks3) state.row
-        → Counted source image state args store marks q.at rows4 marks4
-    dry_ends p q k b marks3 out3 rows4 marks4 r f =
-        dry.counted source image state args store marks may rows2 marks2 e p q k (record { at = b }) marks3 out3 rows4 marks4 r f q.at refl
+    pub dry_ends : (q : Halt) → ((k : ℕ) → get_or marks k 0 < 256) → (rows3 marks3 out3 rows4 marks4 : List ℕ)
+        → Halts source image z args rows2 marks2 [] q rows3 marks3 out3
+        → held rows4 marks4 ≡ put_back (args.stop - read_from z) (held rows3 marks3) (read_from z)
+        → Counted source image z args store marks q.writing.at rows4 marks4
+    dry_ends q b rows3 marks3 out3 rows4 marks4 r f =
+        dry.counted source image z args store marks may rows2 marks2 e q (record { at = b }) rows3 marks3 out3 rows4 marks4 r f
 
   -- too long a text
-  pub ends_ten : (out : List ℕ) (n : Bytes) (store2 marks2 : List ℕ) → Counted source image state args store marks n store2 marks2
+  pub ends_ten : (out listed : List ℕ) (n : Bytes) (store2 marks2 : List ℕ) → Counted source image z args store marks n store2 marks2
       → length out < n.0
       → (r : Refused)
       → r ≡ record { reason = reason.BytesNeeded; place = n.0 }
-      → Draws source image state args store marks out (Err r) store2 marks2 out
-  ends_ten out n store2 marks2 c l r f =
-      rw (f, c.store_left_of, c.marks_left_of) (ends_full source image state args store marks out n.0 h.passes c.bytes l)
+      → Draws source image z args store marks out listed (Err r) store2 marks2 out listed
+  ends_ten out listed n store2 marks2 c l r f =
+      rw (f, c.store_left_of, c.marks_left_of) (ends_full source image z args store marks out listed n.0 h.passes c.bytes l)
 
   -- room for it: the true run, over what the dry run left
-  module _ (n : Bytes) (store2 marks2 : List ℕ) (c : Counted source image state args store marks n store2 marks2) where
-    pub has_room : (out : List ℕ) → n.0 ≤ length out → Fitting source image state args store2 marks2 out
+  module _ (n : Bytes) (store2 marks2 : List ℕ) (c : Counted source image z args store marks n store2 marks2) where
+    pub has_room : (out : List ℕ) → n.0 ≤ length out → Fitting source image z args store2 marks2 out
     has_room out l = rw (c.store_left_of, c.marks_left_of) (record { passing = h; room = let b = c.bytes in omega arith })
 
 -- ---- the true run
-module _ (source image : List ℕ) (state : RenderState) (args : RenderArgs)
-    (store marks out : List ℕ) (h : Fitting source image state args store marks out) where
-  fine : Accepted source image state args store marks
-  fine = accepted source image state args store marks h.passing.passes
+module _ (source image : List ℕ) (z : states.RenderState) (args : RenderArgs)
+    (store marks out listed : List ℕ) (h : Fitting source image z args store marks out) where
+  fine : Accepted source image z args store marks
+  fine = accepted source image z args store marks h.passing.passes
 
-  pub marks_within : (n : ℕ) → n ≡ marks_needed (args.stop - state.row) store state.row → n ≤ length marks
+  pub marks_within : (n : ℕ) → n ≡ marks_needed (args.stop - read_from z) store (read_from z) → n ≤ length marks
   marks_within n e = let w = fine.enough in omega arith
 
-  pub run_unturned : Unturned store state.row args.stop
-  run_unturned = rows_unturned source image state args store marks h.passing
+  pub run_may : Runnable source image z args store
+  run_may = runnable source image z args store marks fine
 
-  pub run_starts : (p : Writing) → Takes state p → Starting store state.row args.stop p
-  run_starts p k = starts source image state args store marks fine store (nested source image state args store marks fine) p k
-
-  pub run_ends : (p q : Writing) → Takes state p → (n : ℕ) → n ≡ marks_needed (args.stop - state.row) store state.row → (marks2 : List ℕ)
-      → marks2 ≡ clear_from (n - state.in_use) state.in_use marks
-      → (marks3 out3 : List ℕ)
-      → Ended (length out)
-      (render_nodes (rule_page args.width.0 args.rule source image) (nodes_at (view_of store) state.row args.stop) true (fresh_renderer p.pen marks2)) out
-      marks3 out3 q
+  pub run_ends : (q : Halt) (n : ℕ) → n ≡ marks_needed (args.stop - read_from z) store (read_from z) → (marks2 : List ℕ)
+      → marks2 ≡ clear_from (n - z.in_use) z.in_use marks
+      → (store3 marks3 out3 listed3 : List ℕ)
+      → Halts source image z args store marks2 out q store3 marks3 out3
+      → length listed ≡ MAX_DEPTH
+      → listed3 ≡ write_front (map row_number (listed_rows q.frames.items q.frames.depth)) listed
       → (used : ℕ)
-      → used ≡ max state.in_use n
-      → Draws source image state args store marks out
+      → used ≡ max z.in_use n
+      → Draws source image z args store marks out listed
       (Ok (record {
         written = record {
           state = record {
-            pen = q.pen;
+            pen = q.writing.pen;
             in_use = used;
-            row = args.stop;
+            row = q.next;
             width = args.width;
             rule = args.rule;
+            listed_rows = q.frames.depth;
           };
-          bytes = q.at;
+          bytes = q.writing.at;
+          entered = q.entered;
         };
-        widest = q.widest;
+        widest = q.writing.widest;
       }))
-      store
+      store3
       marks3
       out3
-  run_ends p q k n e marks2 f marks3 out3 r used g =
-      let over = f ∙ ap (λ (z : ℕ). clear_from (z - state.in_use) state.in_use marks) e ∙ dry.cleared_whole source image state args store marks fine in
-      let run =
-      subst
-      (λ (m : List ℕ).
-      Ended (length out) (render_nodes (rule_page args.width.0 args.rule source image) (nodes_at (view_of store) state.row args.stop) true
-      (fresh_renderer p.pen m))
-      out marks3 out3 q)
-      over
-      r
-      in
-      let past = drop (length (marks_in_use source image state args store marks fine.ahead)) marks in
-      let sized : q.at.0 ≡ bytes source image state args store marks out =
-      run.bytes ∙ ap (λ (d : cut.Drawn). length d.text) (same source image state args store marks fine.ahead out p k past)
-      in
+      listed3
+  run_ends q n e marks2 f store3 marks3 out3 listed3 r size l used g =
+      let over = f ∙ ap (λ (y : ℕ). clear_from (y - z.in_use) z.in_use marks) e ∙ dry.cleared_whole source image z args store marks fine in
+      let ran = subst (λ (m : List ℕ). Halts source image z args store m out q store3 marks3 out3) over r in
+      let past = drop (length (marks_in_use source image z args store marks fine)) marks in
+      let sized = size_is source image z args store marks fine out q store3 marks3 out3 past ran in
       let room = h.room in
-      finished source image state args store marks fine.ahead out p k marks3 out3 q run _ q.at h.passing.passes sized (omega arith)
-      (record { pen = refl; in_use = g ∙ ap (λ (z : ℕ). max state.in_use z) e; row = refl; width = refl; rule = refl })
+      rw r.store_left_of
+      (finished source image z args store marks fine out listed q store3 marks3 out3 listed3 ran size l used h.passing.passes (g ∙ ap (max z.in_use) e)
+      (omega arith))
 
--- ---- by what the first tests say
-module _ (source image : List ℕ) (state : RenderState) (args : RenderArgs) (store marks : List ℕ) (v : Result (Unit {0}) Refused)
-    (e : refusal_in v ≡ early_refusal source image args state store marks) where
-  pub refused_by : (out : List ℕ) (r : Refused) → v ≡ Err r → RenderCalled source image state args store marks out (Err r) store marks out
-  refused_by out r f =
-      (ends_early source image state args store marks out r (refused_early source image state args store marks _ (sym e ∙ ap refusal_in f))).called
+-- refused by the first tests
+pub refused_by : (source image : List ℕ) (z : states.RenderState) (args : RenderArgs) (store marks out listed : List ℕ) (r : Result (Unit {0}) Refused)
+    → refusal_in r ≡ early_refusal source image args z store marks → (e : Refused) → r ≡ Err e
+    → RenderCalled source image z args store marks out listed (Err e) store marks out listed
+refused_by source image z args store marks out listed r f e g =
+    (ends_early source image z args store marks out listed e
+    (refused_early source image z args store marks _ (sym f ∙ ap refusal_in g))).called

@@ -4,11 +4,13 @@
 pub mod call;
 mod dry_run;
 mod fits;
+mod open;
 mod refusal;
 mod room;
 mod run;
 pub mod width;
 
+ghost use Rattle.render_call.specs.Calls.{to_state};
 ghost use Rattle.render_call.specs.Whole.{RenderCalled, Draws, Checked};
 ghost use Rattle.render_call.specs.ByCall.{of_call};
 
@@ -18,7 +20,11 @@ use refusals::{Reason, Refused};
 use renderer_rules::Pen;
 use rows::units::{Bytes, Columns};
 
-// `indent`, `next_indent` and `column`, marks in use, next row, width and rule of width (0: none yet).
+// How many rows a state lists at most.
+pub const MAX_LISTED: usize = 256;
+
+// `indent`, `next_indent` and `column`, marks in use, next row, width and rule of width (0: none yet), and how many rows are listed. The rows
+// themselves are lent beside the state: a struct that held them would be copied at each call.
 // kept: 0 and no Option: C lends the width and the rule of a state as numbers.
 #[derive(Clone, Copy, Debug, Default, PartialEq, Eq)]
 pub struct RenderState {
@@ -27,21 +33,24 @@ pub struct RenderState {
     pub row: usize,
     pub width: Columns,
     pub rule: usize,
+    pub listed_rows: usize,
 }
 
-// The row to stop before, the width, and the rule of width.
+// The row to stop before, how many rows may be entered, the width, and the rule of width.
 #[derive(Clone, Copy, Debug, PartialEq, Eq)]
 pub struct RenderArgs {
     pub stop: usize,
+    pub allotment: usize,
     pub width: Columns,
     pub rule: usize,
 }
 
-// What an accepted call gives: the new state, and the bytes written.
+// What an accepted call gives: the new state, the bytes written, and how many rows were entered.
 #[derive(Clone, Copy, Debug, PartialEq, Eq)]
 pub struct Written {
     pub state: RenderState,
     pub bytes: Bytes,
+    pub entered: usize,
 }
 
 // The same, with the greatest value that `column` was set to.
@@ -52,27 +61,28 @@ pub struct Drawn {
 }
 
 impl Call<'_> {
-    // A rendering call that 20, 1 to 3, 11, 12 and 15 do not refuse.
+    // A rendering call that 20, 1 to 3, 11, 12, 15, 22 and 23 do not refuse.
     pub fn render_checked(
         &self,
         store: &mut [u32],
         marks: &mut [u8],
         out: &mut [u8],
+        listed: &mut [u32; MAX_LISTED],
     ) -> Result<Drawn, Refused>
-        requires { of_call Checked self.now store.old marks.old }
-        ensures { of_call Draws self.now store.old marks.old out.old result store.new marks.new out.new }
+        requires { of_call Checked self.now listed.old store.old marks.old }
+        ensures { of_call Draws self.now listed.old store.old marks.old out.old listed.old result store.new marks.new out.new listed.new }
     {
         let pen = self.state.pen;
         let margin = pen.indent + pen.next_indent;
-        let needs = rows_need(store, self.state.row, self.args.stop, margin);
+        let needs = rows_need(store, self.reads_from(listed), self.args.stop, margin);
         if marks.len() < needs.marks {
             return Err(Reason::MarksNeeded.at(needs.marks));
         }
-        self.render_accepted(store, marks, out, needs)
+        self.render_accepted(store, marks, out, listed, needs)
     }
 }
 
-// A rendering call: renders the rows from the state's next row up to a stop.
+// A rendering call: renders rows from the state's next row towards a stop, as many as it may enter.
 // kept: one parameter for each thing that C lends; the functions that this one calls take a `Call`.
 pub fn render_call(
     source: &[u8],
@@ -80,10 +90,12 @@ pub fn render_call(
     store: &mut [u32],
     marks: &mut [u8],
     out: &mut [u8],
+    listed: &mut [u32; MAX_LISTED],
     state: RenderState,
     args: RenderArgs,
 ) -> Result<Written, Refused>
-    ensures { RenderCalled source.now image.now state args store.old marks.old out.old result store.new marks.new out.new }
+    ensures { RenderCalled source.now image.now (to_state state listed.old) args store.old marks.old out.old listed.old result store.new marks.new out.new
+        listed.new }
 {
     let call = Call {
         source,
@@ -91,6 +103,6 @@ pub fn render_call(
         state,
         args,
     };
-    call.refusal(store, marks)?;
-    Ok(call.render_checked(store, marks, out)?.written)
+    call.refusal(store, marks, listed)?;
+    Ok(call.render_checked(store, marks, out, listed)?.written)
 }

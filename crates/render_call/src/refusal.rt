@@ -1,9 +1,10 @@
-// Refusals 20, 1, 2, 3, 11, 12 and 15: what the tests before the rows are counted say of a call.
+// Refusals 20, 1, 2, 3, 11, 12, 15, 22 and 23: what the tests before the rows are counted say of a call.
 ghost use Rattle.std.specs.Prelude.{◌≡◌};
 ghost use Rattle.refusals.specs.Reasons.{refusal_in};
 ghost use Rattle.whole_run.specs.Parts.{formed_line, render_image};
-ghost use Rattle.render_call.specs.Calls.{early_refusal};
+ghost use Rattle.render_call.specs.Calls.{to_state, early_refusal};
 
+use crate::MAX_LISTED;
 use crate::call::Call;
 use choices::rule_chosen;
 use image::{header_fits, source_fits};
@@ -37,9 +38,15 @@ impl Call<'_> {
         Ok(())
     }
 
-    // Refusals 20, 1, 2, 3, 11, 12 and 15, the first that holds.
-    pub(crate) fn refusal(&self, store: &[u32], marks: &[u8]) -> Result<(), Refused>
-        ensures { refusal_in result ≡ early_refusal self.now.source.now self.now.image.now self.now.args self.now.state store.now marks.now }
+    // Refusals 20, 1, 2, 3, 11, 12, 15, 22 and 23, the first that holds.
+    pub(crate) fn refusal(
+        &self,
+        store: &[u32],
+        marks: &[u8],
+        listed: &[u32; MAX_LISTED],
+    ) -> Result<(), Refused>
+        ensures { refusal_in result
+            ≡ early_refusal self.now.source.now self.now.image.now self.now.args (to_state self.now.state listed.now) store.now marks.now }
     {
         rule_chosen(self.image, self.args.rule)?;
         self.image_refusal()?;
@@ -48,7 +55,12 @@ impl Call<'_> {
             source: self.source,
             image: self.image,
         };
-        check_rows(rows, self.state.row, self.args.stop, self.args.rule)?;
-        self.state_refusal(store, marks)
+        check_rows(
+            rows,
+            self.reads_from(listed),
+            self.args.stop,
+            self.args.rule,
+        )?;
+        self.state_refusal(store, marks, listed)
     }
 }

@@ -299,6 +299,15 @@ module _ (store source image : List ℕ) (stop a : ℕ) (r0 : Held) where
         subst (Stops v pg stop a m0) (sym h) s
 
 -- ---- the promise, with the allotment as it was given
+rows_under : (v : View) (stop : ℕ) (fs : List Frame) (d : ℕ) → Under v stop fs d → (j : ℕ) → j < d → (frame_at fs j).row < stop
+unfolding Under
+rows_under v stop fs zero u j h = absurd (omega arith)
+rows_under v stop fs (suc d) u j h = go (dec_lt j d) (rows_under v stop fs d u.1 j)
+  where
+    go : Dec (j < d) → (j < d → (frame_at fs j).row < stop) → (frame_at fs j).row < stop
+    go (yes p) rec = rec p
+    go (no p) rec = let e : j ≡ d = omega arith in subst (λ (k : ℕ). (frame_at fs k).row < stop) (sym e) u.0.row
+
 module _ (store source image : List ℕ) (stop given : ℕ) (r0 q : Held) (left : ℕ) (g : Halting store source image stop (min given MOST) r0 q left) where
   as_given : (l : List Stop) (d : Stop) → length l ≤ MOST → get_or l (min given MOST) d ≡ get_or l given d
   as_given l d h = go (dec_lt given MOST)
@@ -321,6 +330,9 @@ module _ (store source image : List ℕ) (stop given : ℕ) (r0 q : Held) (left 
         count = omega arith;
         wrote = g.wrote;
         lent = g.lent;
+        size = g.fine.size;
+        deep = g.fine.deep;
+        rows = λ j h. (let y = rows_under (view_of store) stop q.frames.items q.frames.depth g.fine.under j h in let z = g.resuming.few in omega arith);
       }
 
 -- ---- a rendering of all rows from the start: its allotment is never spent

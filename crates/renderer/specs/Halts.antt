@@ -3,12 +3,12 @@ use Rattle.std.specs.Prelude.{ℕ, zero, suc, ◌+◌, ◌*◌, ◌≤◌, ◌<�
 use Rattle.rows.specs.Kinds.{WRAP_PARENT, LINE_OR_SPACE, number_of}
 use Rattle.rows.specs.declared.kinds.Kind.{Kind}
 use Rattle.rows.specs.Places.{KIND, PLACES}
-use Rattle.rows.specs.Limits.{MAX_ROWS}
+use Rattle.rows.specs.Limits.{MAX_ROWS, MAX_DEPTH}
 use Rattle.rows.specs.View.{view_of, cell}
 use Rattle.rows.specs.declared.texts.Rows.{Rows}
 use Rattle.renderer_rules.specs.Limits.{START_MARGIN, MAX_COLUMN}
 use Rattle.renderer_rules.specs.Page.{page_of}
-use Rattle.renderer_rules.specs.Frames.{At, part_limit, wrap_at}
+use Rattle.renderer_rules.specs.Frames.{At, frame_at, part_limit, wrap_at}
 use Rattle.renderer_rules.specs.Machine.{Machine, turn}
 use Rattle.renderer_rules.specs.Safe.{steps, ins}
 use Rattle.renderer_rules.specs.Stops.{Stop, stop_at, listed_rows, ahead, meaning}
@@ -46,6 +46,9 @@ pub record Halted (store source image : List ℕ) (stop allotment : ℕ) (r q : 
   pub count : n ≡ min allotment (length (stops_of store source image stop r))
   pub wrote : Wrote (length r.out.now) r.out.now q.out.now q.writing.at.0 text
   pub lent : Lent r q
+  pub size : length q.frames.items ≡ MAX_DEPTH
+  pub deep : q.frames.depth ≤ MAX_DEPTH
+  pub rows : (j : ℕ) → j < q.frames.depth → (frame_at q.frames.items j).row < MAX_ROWS
 
 -- ---- rows without parts, one after the other
 -- a function done k times

@@ -3,7 +3,7 @@ use Rattle.std.specs.Prelude.{ℕ}
 
 -- `START_MARGIN`, and a step for each of `MAX_DEPTH` open rows
 abbrev pub MAX_MARGIN : ℕ
-MAX_MARGIN = 384
+MAX_MARGIN = 1024
 
 -- 2 ^ 60 and 2 ^ 61: what column and bytes are below where a row is entered, and inside it
 abbrev pub BEFORE_ROW : ℕ

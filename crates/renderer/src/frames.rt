@@ -1,7 +1,7 @@
 // The open rows of a rendering.
-ghost use Rattle.std.specs.Prelude.{◌≡◌, ◌+◌, ◌-◌, ◌≤◌, ◌<◌, true, false, cond, length, set, ltb};
+ghost use Rattle.std.specs.Prelude.{◌≡◌, ◌+◌, ◌-◌, ◌≤◌, ◌<◌, true, false, cond, length, replicate, set, ltb};
 ghost use Rattle.rows.specs.Limits.{MAX_DEPTH};
-ghost use Rattle.renderer_rules.specs.Frames.{frame_at};
+ghost use Rattle.renderer_rules.specs.Frames.{frame_at, no_frame};
 ghost use Rattle.renderer_rules.specs.Machine.{frame_of};
 
 use renderer_rules::Frame;
@@ -35,8 +35,8 @@ pub struct Frames {
 }
 
 impl Frames {
-    pub(crate) fn new() -> Self
-        ensures { (result.depth ≡ 0) × (length result.items ≡ MAX_DEPTH) }
+    pub fn new() -> Self
+        ensures { (result.depth ≡ 0) × (length result.items ≡ MAX_DEPTH) × (result.items ≡ replicate MAX_DEPTH no_frame) }
     {
         Frames {
             items: [NONE; MAX_DEPTH],

@@ -57,7 +57,7 @@ module _ (q : ℕ → Bool) where
   abbrev pub Inside : Nodes → Type 0
   Inside ns = (x : ℕ) → q x ≡ false → names_in x ns ≡ false
 
-  abbrev Within : Node → Type 0
+  abbrev pub Within : Node → Type 0
   Within n = (x : ℕ) → q x ≡ false → names x n ≡ false
 
   -- what keeps the marks keeps renderers alike
@@ -73,7 +73,7 @@ module _ (q : ℕ → Bool) where
       }
 
   -- and so does what changes the pen
-  keeps_pen : (f : Pen → Pen) (s t : Renderer) → Alike s t → Alike (on_pen f s) (on_pen f t)
+  pub keeps_pen : (f : Pen → Pen) (s t : Renderer) → Alike s t → Alike (on_pen f s) (on_pen f t)
   keeps_pen f s t a = keeps (on_pen f) (λ m r. refl) s t a
 
   set_agree : (n : ℕ) (m o : List ℕ) → Agree m o → Agree (set m n 1) (set o n 1)
@@ -90,13 +90,13 @@ module _ (q : ℕ → Bool) where
           get_or-eq_default (set o n 1) 0 (let y = length-set o n 1 in omega arith)
           ∙ sym (get_or-eq_default (set m n 1) 0 (let y = length-set m n 1 in omega arith))
 
-  insert_alike : (w : Bool) (n : ℕ) (s t : Renderer) → Alike s t → Alike (insert w n s) (insert w n t)
+  pub insert_alike : (w : Bool) (n : ℕ) (s t : Renderer) → Alike s t → Alike (insert w n s) (insert w n t)
   unfolding insert
   insert_alike true n s t a =
       record { rest = ap (λ (r : Renderer). with_marks (set t.marks n 1) r) a.rest; marks = set_agree n s.marks t.marks a.marks }
   insert_alike false n s t a = record { rest = ap (λ (r : Renderer). with_marks t.marks r) a.rest; marks = a.marks }
 
-  cond_alike : (c : Bool) (s t u v : Renderer) → Alike s u → Alike t v → Alike (cond c s t) (cond c u v)
+  pub cond_alike : (c : Bool) (s t u v : Renderer) → Alike s u → Alike t v → Alike (cond c s t) (cond c u v)
   cond_alike true s t u v a b = a
   cond_alike false s t u v a b = b
 
@@ -105,7 +105,7 @@ module _ (q : ℕ → Bool) where
   own n m o a true e h = a.at n e
   own n m o a false e h = absurd (eqb-false n n (h e) refl)
 
-  wrapped_same : (n : ℕ) (m o : List ℕ) → Agree m o → (q n ≡ false → eqb n n ≡ false) → wrapped o n ≡ wrapped m n
+  pub wrapped_same : (n : ℕ) (m o : List ℕ) → Agree m o → (q n ≡ false → eqb n n ≡ false) → wrapped o n ≡ wrapped m n
   wrapped_same n m o a h = ap (λ (x : ℕ). eqb x 1) (own n m o a (q n) refl h)
 
   module _ (columns : Text → ℕ) (m o : List ℕ) (a : Agree m o) where
@@ -153,16 +153,16 @@ module _ (q : ℕ → Bool) where
     unfolding wraps
     wraps_same must w v s t e a = ap₂ (λ (c x : ℕ). must || ltb p.max (c + x)) (virtual_same s t a) e
 
-    group_same : (ns : Nodes) (s t : Renderer) → Inside ns → Alike s t → group_wraps p ns t ≡ group_wraps p ns s
+    pub group_same : (ns : Nodes) (s t : Renderer) → Inside ns → Alike s t → group_wraps p ns t ≡ group_wraps p ns s
     unfolding group_wraps
     group_same ns s t i a = wraps_same (must_wraps ns) _ _ s t (wide_same ns s t i a) a
 
-    trailing_same : (e b : Nodes) (s t : Renderer) → Inside e → Inside b → Alike s t → trailing_call p e b t ≡ trailing_call p e b s
+    pub trailing_same : (e b : Nodes) (s t : Renderer) → Inside e → Inside b → Alike s t → trailing_call p e b t ≡ trailing_call p e b s
     unfolding trailing_call
     trailing_same e b s t i j a =
         rw (virtual_same s t a, wide_same e s t i a, wide_same b s t j a)
 
-    callee_same : (c : Bool) (e b : Nodes) (s t : Renderer) → Inside e → Inside b → Alike s t → callee_wraps p c e b t ≡ callee_wraps p c e b s
+    pub callee_same : (c : Bool) (e b : Nodes) (s t : Renderer) → Inside e → Inside b → Alike s t → callee_wraps p c e b t ≡ callee_wraps p c e b s
     unfolding callee_wraps
     callee_same c e b s t i j a =
         ap₂ (λ (x y : Bool). cond c x y) (group_same e s t i a)
@@ -190,7 +190,7 @@ module _ (q : ℕ → Bool) where
     mutual
       unfolding render_node names called callee grouped
 
-      render_alike : (n : Node) (w : Bool) (s t : Renderer) → Within n → Alike s t → Alike (render_node p n w s) (render_node p n w t)
+      pub render_alike : (n : Node) (w : Bool) (s t : Renderer) → Within n → Alike s t → Alike (render_node p n w s) (render_node p n w t)
       render_alike (group n ns) w s t i a =
           let j : Inside ns = λ x h. (neither (eqb x n) (names_in x ns) (i x h)).1 in
           grouped_alike n ns s t j (λ w' s' t' a'. renders_alike ns w' s' t' j a') a

@@ -23,6 +23,15 @@ unfoldable pub wrap_at : List Frame → ℕ → Bool
 wrap_at fs zero = true
 wrap_at fs (suc d) = (frame_at fs d).wrap
 
+-- an open row, and what is open of it, lie from row `from` on; and so the first d of some
+pub record Lies (v : View) (from : ℕ) (f : Frame) : Type 0 where
+  pub row : from ≤ f.row
+  pub after : from ≤ v.after f.row
+  pub part : f.first ≡ true → from ≤ v.second f.row
+
+abbrev pub AllLie : View → ℕ → List Frame → ℕ → Type 0
+AllLie v from fs d = (j : ℕ) → j < d → Lies v from (frame_at fs j)
+
 module _ (v : View) (stop : ℕ) where
   -- where that part ends
   unfoldable pub part_limit : List Frame → ℕ → ℕ

@@ -1,6 +1,7 @@
 // The stored lists of calls, each with the world before it and after it.
 use crate::calls::{Run, World};
 use crate::states::{layout_state, render_state};
+use render_call::MAX_LISTED;
 use stored_answers::compare::{fill, is_next};
 use stored_answers::difference::{Difference, bytes_found, unless};
 use stored_answers::numbers::Reader;
@@ -8,9 +9,10 @@ use stored_answers::parts::Parts;
 
 // The buffers of all lists.
 #[derive(Drop)]
-pub(crate) struct Buffers<'s, 'm, 't, 'c> {
+pub(crate) struct Buffers<'s, 'm, 'l, 't, 'c> {
     pub store: &'s mut [u32],
     pub marks: &'m mut [u8],
+    pub listed: &'l mut [u32; MAX_LISTED],
     pub text: &'t mut [u8],
     pub counts: &'c mut [usize],
 }
@@ -41,7 +43,10 @@ fn world_found(world: &World, answers: &mut Reader) -> Result<(), Difference> {
     let store = store_found(world.store, answers);
     let marks = bytes_found(world.marks, answers, Difference::Marks);
     let layout = unless(run.layout == layout_state(answers), Difference::Layout);
-    let rendering = unless(run.render == render_state(answers), Difference::Rendering);
+    let rendering = unless(
+        render_state(answers).is(run.render, world.listed),
+        Difference::Rendering,
+    );
     let text = text_found(world.text, run.written, answers);
     run.found
         .and(store)
@@ -73,17 +78,22 @@ pub(crate) fn replay_case(answers: &mut Reader, buffers: &mut Buffers) -> Result
         return no_room(answers);
     };
     fill(marks, answers);
+    let laid = layout_state(answers);
+    let rendered = render_state(answers);
+    let listed = &mut *buffers.listed;
+    rendered.fill(listed);
     let text = &mut *buffers.text;
     let counts = &mut *buffers.counts;
     let mut world = World {
         parts,
         store,
         marks,
+        listed,
         text,
         counts,
         run: Run {
-            layout: layout_state(answers),
-            render: render_state(answers),
+            layout: laid,
+            render: rendered.state,
             written: 0,
             found: Ok(()),
         },

@@ -4,6 +4,7 @@ use crate::cases::{self, replay_case};
 use crate::image_moves::{self, replay_move};
 use crate::step_lists::{self, replay_list};
 use crate::verdicts::{ANSWERS as VERDICTS, replay_verdict};
+use render_call::MAX_LISTED;
 use stored_answers::group::filled;
 use stored_answers::report::{replay, show_counts, show_end};
 
@@ -11,11 +12,13 @@ use stored_answers::report::{replay, show_counts, show_end};
 pub(crate) fn calls(rt: &impl Print, answers: &[u8]) {
     let mut store: [u32; 16384] = filled(0);
     let mut marks: [u8; 4096] = filled(0);
+    let mut listed: [u32; MAX_LISTED] = filled(0);
     let mut text: [u8; 1114112] = filled(0);
-    let mut counts = [0usize; 63];
+    let mut counts = [0usize; 72];
     let mut buffers = cases::Buffers {
         store: &mut store,
         marks: &mut marks,
+        listed: &mut listed,
         text: &mut text,
         counts: &mut counts,
     };

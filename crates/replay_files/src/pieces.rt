@@ -6,7 +6,7 @@ use file::{REFERENCE_WIDTH, Text, render_fresh};
 use layout_call::modes::OLD_MODE;
 use layout_call::{Laid, LayoutArgs, LayoutState, layout_call};
 use refusals::Reason;
-use render_call::{RenderArgs, render_call};
+use render_call::{MAX_LISTED, RenderArgs, render_call};
 use rows::units::Columns;
 use stored_answers::difference::{Difference, unless};
 use stored_answers::numbers::{Reader, past};
@@ -119,15 +119,18 @@ fn by_declarations(
     let laid = lay_out(accepted, parts, store, archived)?;
     let args = RenderArgs {
         stop: laid.state.row,
+        allotment: usize::MAX,
         width: Columns(REFERENCE_WIDTH),
         rule: SUPPLIED,
     };
+    let mut listed = [0; MAX_LISTED];
     let Ok(written) = render_call(
         parts.source,
         parts.image,
         store,
         marks,
         out,
+        &mut listed,
         render_fresh(),
         args,
     ) else {

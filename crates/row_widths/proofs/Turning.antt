@@ -128,17 +128,32 @@ rows_turned f (suc n) s i k h l m =
 pub turned_rows : TurnedRows
 turned_rows f s i n h = turned_measures f (view_of s) (view_of (pass (row_turned f) n s i)) i (i + n) (λ k l m. rows_turned f n s i k h l m)
 
--- ---- they nest as before
-pass_size : (f : Text → ℕ) (n : ℕ) (s : List ℕ) (i : ℕ) → length (pass (row_turned f) n s i) ≡ length s
+-- ---- no other place changes, in any row
+row_place : (f : Text → ℕ) (s : List ℕ) (i j k : ℕ) → 1 < k → k < 8 → cell (row_turned f s i) j k ≡ cell s j k
+row_place f s i j k a b = go (eqb (cell s i KIND) ASCII) refl
+  where
+    go : (c : Bool) → eqb (cell s i KIND) ASCII ≡ c → cell (row_turned f s i) j k ≡ cell s j k
+    go true e =
+        ap (λ (m : List ℕ). cell m j k) (turned_is f s i (eqb-true (cell s i KIND) ASCII e))
+        ∙ three_other s i STR TURNED (f (row_text s i)) (j * PLACES + k) (λ q. omega arith) (λ q. omega arith) (λ q. omega arith)
+    go false e = ap (λ (m : List ℕ). cell m j k) (turned_not f s i (eqb-false (cell s i KIND) ASCII e))
+
+pub turned_place : (f : Text → ℕ) (n : ℕ) (s : List ℕ) (i j k : ℕ) → 1 < k → k < 8 → cell (pass (row_turned f) n s i) j k ≡ cell s j k
 unfolding pass
-pass_size f zero s i = refl
-pass_size f (suc n) s i = pass_size f n (row_turned f s i) (suc i) ∙ (turned_local f).size s i
+turned_place f zero s i j k a b = refl
+turned_place f (suc n) s i j k a b = turned_place f n (row_turned f s i) (suc i) j k a b ∙ row_place f s i j k a b
+
+-- ---- they nest as before
+pub turned_size : (f : Text → ℕ) (n : ℕ) (s : List ℕ) (i : ℕ) → length (pass (row_turned f) n s i) ≡ length s
+unfolding pass
+turned_size f zero s i = refl
+turned_size f (suc n) s i = turned_size f n (row_turned f s i) (suc i) ∙ (turned_local f).size s i
 
 pub still_nested : (f : Text → ℕ) (s : List ℕ) (from to : ℕ) → Nested s from to → Nested (pass (row_turned f) (to - from) s from) from to
 still_nested f s from to x =
     let le : from ≤ to = nests_le x.nests in
     let room = x.room in
-    let size = pass_size f (to - from) s from in
+    let size = turned_size f (to - from) s from in
     record {
       room = omega arith;
       few = x.few;

@@ -30,6 +30,9 @@ use Rattle.renderer_rules.specs.Renderer.{insert, indent_more, indent_less, next
 use Rattle.renderer_rules.specs.Renderer.{next_indent_less, wraps, group_wraps, trailing_call, callee_wraps, render_node, render_nodes}
 use Rattle.rows.specs.Texts.{origin_text}
 use Rattle.renderer_rules.specs.Page.{text_bytes}
+use Rattle.renderer_rules.specs.Stops as stops
+use Rattle.renderer_rules.specs.Frames.{part_limit, wrap_at}
+use Rattle.renderer_rules.specs.Listed.{can_close_all}
 use Rattle.renderer_rules.specs.Check.{reaches, parts_fit, row_fits_of, first_wrong, wrong_row_of, places_fit, places_fit_by, wrong_place_by}
 use Rattle.widths.specs.Rules.{edition_of, columns_by}
 use Rattle.node_widths.specs.Summed.{summed, summed_all, str_columns}
@@ -38,7 +41,8 @@ use Rattle.marks.specs.Marks.{marks_needed}
 use Rattle.whole_run.specs.Edges.{newline, EdgesHold, WidthsHold, EmptyLineHolds}
 
 pub edges_hold : EdgesHold
-unfolding header comment_fits comments_from comment_list shape opens children_at skips record_at tree_at read_tree read_image source_fits
+unfolding stops.ahead stops.behind stops.rest stops.meaning stops.entered stops.listed_rows part_limit wrap_at can_close_all
+    header comment_fits comments_from comment_list shape opens children_at skips record_at tree_at read_tree read_image source_fits
     read_with width_bytes stored_width be16 be32 row_of
     row_under_of kind_fits_of payload_fits first_child written within row_in followed sequence runs prefix well_formed boundary is_range views syntax_tree bytes
     must_wrap must_wraps width widths size sizes rows_of rows view_of node_of decode nodes_at comments_of pairs_at push_str at_column
@@ -56,7 +60,8 @@ unfolding header comment_fits comments_from comment_list shape opens children_at
 edges_hold = refl
 
 pub widths_hold : WidthsHold
-unfolding header source_fits be32 must_wrap must_wraps width widths size sizes rows_of rows view_of node_of decode nodes_at push_str
+unfolding stops.ahead stops.behind stops.rest stops.meaning stops.entered stops.listed_rows part_limit wrap_at can_close_all
+    header source_fits be32 must_wrap must_wraps width widths size sizes rows_of rows view_of node_of decode nodes_at push_str
     at_column new_line margin text
     virtual_column insert wraps group_wraps render_node render_nodes origin_text text_bytes reaches parts_fit row_fits_of first_wrong
     wrong_row_of places_fit places_fit_by wrong_place_by str_columns ascii_columns columns_by edition_of

@@ -29,6 +29,8 @@ use Rattle.comments.specs.Listed.{given}
 use Rattle.layout.specs.Layout.{fmt_parsed}
 use Rattle.layout.specs.Closing.{fresh, whole_rule}
 use Rattle.renderer_rules.specs.Check.{wrong_place_by}
+use Rattle.renderer_rules.specs.Renderer.{Renderer, render_nodes}
+use Rattle.renderer_rules.specs.Listed.{can_close_all}
 use Rattle.renderer_rules.specs.Widest.{greatest_column}
 use Rattle.refusals.specs.Refusals.{Refusal, unless, first, refuse_if, refuse_at, any}
 use Rattle.refusals.specs.Answers.{answer_by}
@@ -41,8 +43,10 @@ use Rattle.cut_rule.specs.Entries.{layout_answer, layout_store, render_gives, re
 use Rattle.cut_rule.specs.States.{LayoutState, RenderState, layout_fresh, render_fresh, LayoutChoice, RenderChoice}
 use Rattle.cut_rule.specs.Tests.{rows_in, render_tests, places_tests, limit_tests, begun_tests, stop_tests, mode_tests, rule_tests}
 use Rattle.cut_rule.specs.Tests.{row_tests, pen_tests, mark_tests}
+use Rattle.cut_rule.specs.Limits.{MAX_ALLOTMENT}
 use Rattle.cut_rule.specs.Parts.{layout_tests, rows_needed, before_rows, rows_line, with_cleared, drawn_of, before_marks, marks_line, text_line, render_table}
-use Rattle.whole_run.specs.Parts.{formed_line, render_image, keeps_waiting, page, drawn, widest_drawn, parts_of}
+use Rattle.cut_rule.specs.Parts.{Drawn, allotment_line, listed_line}
+use Rattle.whole_run.specs.Parts.{formed_line, render_image, keeps_waiting, page, whole_drawn, renderer_of, widest_drawn, parts_of}
 use Rattle.whole_run.specs.Demands.{rules_of, laid_to, closing_at}
 use Rattle.whole_run.specs.Built.{FileChoice, layout_choice, render_choice, tree, declared, built, laid, rows_due, marks_due, drawn_due, column_due}
 use Rattle.whole_run.specs.File.{mode_line, file_before_rows, file_rows_line, file_before_marks, file_marks_line, file_text_line, laid_refusal, refusal_in}
@@ -53,6 +57,8 @@ use Rattle.whole_run.proofs.Whole.{fmt_parsed_lem}
 use Rattle.whole_run.proofs.Foot.{closing_places_all}
 use Rattle.whole_run.proofs.Limits.{all_limited}
 use Rattle.whole_run.proofs.FileTable.{left_to_two, FilePassed, file_passed, laid_passed, before_marks_lem}
+use Rattle.whole_run.proofs.Right.{right}
+use Rattle.whole_run.proofs.AllRows.{all_rows, all_widest}
 use Rattle.whole_run.proofs.RenderParts.{render_parts}
 
 fits_source : (s : List ℕ) → length s ≤ 65536 → source_fits s ≡ true
@@ -192,7 +198,7 @@ module _ (s b : List ℕ) where
     render_to = record { stop = rows_due s b c; choice = render_choice c }
 
     abbrev pub render_args : List ℕ → RenderArgs RenderChoice
-    render_args out = record { to = render_to; room = length out }
+    render_args out = record { to = render_to; allotment = MAX_ALLOTMENT; room = length out }
 
     -- 12
     render_passes : (store marks out : List ℕ) → any (render_tests (render_args out) render_fresh store marks) ≡ false
@@ -219,17 +225,6 @@ module _ (s b : List ℕ) where
           sym ((render_parts s b (read_earlier s b)).needed_local (rows (laid s b c) 0) rowed 0 (rows_due s b c) (same_rows store))
           ∙ ap (λ (n : ℕ). marks_needed n (rows (laid s b c) 0) 0) (sub-zero (rows_due s b c))
 
-      drawn_due_of : drawn_of (parts_of s b) render_fresh render_to [] rowed ≡ drawn_due s b c
-      drawn_due_of =
-          let g = (fmt_parsed_lem (read_earlier s b) s b).closed_in (layout_choice c) in
-          let z = render_fresh in
-          let m = marks_needed (rows_due s b c - 0) rowed 0 in
-          let cleared : List ℕ = replicate (marks_due s b c) 0 in
-          sym ((render_parts s b (read_earlier s b)).draw_local z render_to (replicate (m - 0) 0) (rows (laid s b c) 0) rowed (same_rows store))
-          ∙ ap (λ (n : ℕ). drawn s b z render_to (replicate n 0) (rows (laid s b c) 0)) (sub-zero m ∙ marks_due_of)
-          ∙ ap₂ (λ (x : List ℕ) (n : ℕ). drawn s b z (record { stop = n; choice = render_choice c }) cleared x) (sym g.rows_due_of) (sym g.row_due)
-          ∙ g.drawn_due_of (render_choice c) z cleared refl
-
       -- the rows are read back as the nodes that they are of
       nodes_due : nodes_at (view_of rowed) 0 (rows_due s b c) ≡ laid s b c
       nodes_due =
@@ -237,13 +232,43 @@ module _ (s b : List ℕ) where
           ap (nodes_at (view_of rowed) 0) (sym (laid_size c.rule s b (built s b c).nodes) ∙ sym (zero-add (sizes (laid s b c))))
           ∙ read_back (laid s b c) rowed 0 (holds_part rowed 0 r (take-append_seam r (drop (length r) store)))
 
-      widest_due : widest_drawn s b render_fresh render_to (with_cleared (parts_of s b) [] (marks_needed (rows_due s b c - 0) rowed 0)) rowed ≡ column_due s b c
-      widest_due =
-          ap₂ (λ (ns : Nodes) (m : ℕ). greatest_column (page (render_choice c) s b) ns (replicate m 0)) nodes_due
+      -- they are fewer than the largest allotment
+      all_allotted : read_refusal (read_earlier s b) ≡ None → sizes (nodes_at (view_of rowed) 0 (rows_due s b c)) ≤ MAX_ALLOTMENT
+      all_allotted read =
+          let few = (right c.rule s b rowed 0 (rows_due s b c) (omega arith) (rows_right read)).few in
+          omega (arith, few, ap sizes nodes_due, laid_size c.rule s b (built s b c).nodes)
+
+      -- what `Renderer` leaves of them, and how many it enters
+      abbrev renderer_due : Renderer
+      renderer_due = render_nodes (page (render_choice c) s b) (laid s b c) true (renderer_of render_fresh.pen (replicate (marks_due s b c) 0))
+
+      abbrev pub entered_due : ℕ
+      entered_due = (drawn_of (parts_of s b) render_fresh render_to MAX_ALLOTMENT [] rowed).entered
+
+      drawn_due_of : read_refusal (read_earlier s b) ≡ None
+          → drawn_of (parts_of s b) render_fresh render_to MAX_ALLOTMENT [] rowed ≡ whole_drawn (rows_due s b c) entered_due renderer_due
+      drawn_due_of read =
+          let m = marks_needed (rows_due s b c - 0) rowed 0 in
+          let all = all_rows s b render_fresh render_to MAX_ALLOTMENT (replicate (m - 0) 0) rowed refl (all_allotted read) in
+          let as_whole : Nodes → ℕ → ℕ → Drawn =
+          λ ns n k.
+          whole_drawn (rows_due s b c) k (render_nodes (page (render_choice c) s b) ns true (renderer_of render_fresh.pen (replicate n 0))) in
+          all
+          ∙ ap (as_whole (nodes_at (view_of rowed) 0 (rows_due s b c)) (m - 0)) (sym (ap (λ (y : Drawn). y.entered) all))
+          ∙ ap₂ (λ (ns : Nodes) (n : ℕ). as_whole ns n entered_due) nodes_due (sub-zero m ∙ marks_due_of)
+
+      widest_due : read_refusal (read_earlier s b) ≡ None
+          → widest_drawn s b render_fresh render_to MAX_ALLOTMENT (with_cleared (parts_of s b) [] (marks_needed (rows_due s b c - 0) rowed 0)) rowed
+          ≡ column_due s b c
+      widest_due read =
+          all_widest s b render_fresh render_to MAX_ALLOTMENT (with_cleared (parts_of s b) [] (marks_needed (rows_due s b c - 0) rowed 0)) rowed refl
+          (all_allotted read)
+          ∙ ap₂ (λ (ns : Nodes) (m : ℕ). greatest_column (page (render_choice c) s b) ns (replicate m 0)) nodes_due
           (sub-zero (marks_needed (rows_due s b c - 0) rowed 0) ∙ marks_due_of)
 
       -- but for marks that are too few and too long a text, nothing refuses
       early_due : FilePassed s b c → (marks out : List ℕ) → first (before_marks (parts_of s b) (render_args out) render_fresh rowed marks) ≡ None
+      unfolding can_close_all
       early_due p marks out =
           λ t.
           first
@@ -252,31 +277,60 @@ module _ (s b : List ℕ) where
           ∷ refuse_at (rows_right p.earlier t) 11
           ∷ refuse_if (render_passes rowed marks out t) 12 0
           ∷ p.legal t
+          ∷ allotment_line MAX_ALLOTMENT
+          ∷ listed_line render_fresh rowed
           ∷ [])
 
-      pub rendered_due_lem : (marks out : List ℕ)
+      pub rendered_due_lem : read_refusal (read_earlier s b) ≡ None → (marks out : List ℕ)
           → render_gives (rules_of s b) (render_args out) render_fresh rowed marks
           ≡ record {
-            state = record { pen = (drawn_due s b c).pen; in_use = max 0 (marks_due s b c); row = rows_due s b c; width = c.width; rule = c.rule };
+            state = record {
+              pen = (drawn_due s b c).pen;
+              in_use = max 0 (marks_due s b c);
+              row = rows_due s b c;
+              width = c.width;
+              rule = c.rule;
+              listed = [];
+            };
             marks = (drawn_due s b c).marks;
             text = (drawn_due s b c).text;
+            entered = entered_due;
           }
-      rendered_due_lem marks out =
+      rendered_due_lem read marks out =
+          let d = drawn_due_of read in
           λ t.
           record {
-            state = record { pen = (drawn_due_of t).pen; in_use = max 0 (marks_due_of t); row = rows_due s b c; width = c.width; rule = c.rule };
-            marks = (drawn_due_of t).marks;
-            text = (drawn_due_of t).text;
+            state = record {
+              pen = (d t).pen;
+              in_use = max 0 (marks_due_of t);
+              row = (d t).row;
+              width = c.width;
+              rule = c.rule;
+              listed = (d t).listed;
+            };
+            marks = (d t).marks;
+            text = (d t).text;
+            entered = (d t).entered;
           }
 
     -- the state that it answers
     abbrev pub rendered_due : RenderState
-    rendered_due = record { pen = (drawn_due s b c).pen; in_use = max 0 (marks_due s b c); row = rows_due s b c; width = c.width; rule = c.rule }
+    rendered_due = record {
+      pen = (drawn_due s b c).pen;
+      in_use = max 0 (marks_due s b c);
+      row = rows_due s b c;
+      width = c.width;
+      rule = c.rule;
+      listed = [];
+    }
 
     -- what it answers and leaves, of what the layout call left
     module _ (store marks out : List ℕ) (h : laid_refusal s b c (rows_in store) ≡ None) where
       left_store : store_left s b c store ≡ rowed store
       left_store = ap (λ (r : Option Refusal). unless r store (rowed store)) h
+
+      read : read_refusal (read_earlier s b) ≡ None
+      read = (laid_passed s b c (rows_in store) h).earlier
 
       early : first (before_marks (parts_of s b) (render_args out) render_fresh (rowed store) marks) ≡ None
       early = early_due store (laid_passed s b c (rows_in store) h) marks out
@@ -293,7 +347,7 @@ module _ (s b : List ℕ) where
           ∙ (λ t.
           first
           (refuse_if (ltb (length marks) (marks_due_of store t)) 9 (marks_due_of store t)
-          ∷ refuse_if (ltb (length out) (length (drawn_due_of store t).text)) 10 (length (drawn_due_of store t).text)
+          ∷ refuse_if (ltb (length out) (length (drawn_due_of store read t).text)) 10 (length (drawn_due_of store read t).text)
           ∷ []))
           ∙ sym
           (left_to_two (file_before_marks s b c (rows_in store)) (file_marks_line s b c (length marks)) (file_text_line s b c (length out)) h)
@@ -303,14 +357,14 @@ module _ (s b : List ℕ) where
           ap (λ (x : List ℕ). first (before_marks (parts_of s b) (render_args out) render_fresh x marks)) left_store ∙ early
 
       gives_due : render_gives (rules_of s b) (render_args out) render_fresh (store_left s b c store) marks
-          ≡ record { state = rendered_due; marks = (drawn_due s b c).marks; text = (drawn_due s b c).text }
+          ≡ record { state = rendered_due; marks = (drawn_due s b c).marks; text = (drawn_due s b c).text; entered = entered_due store }
       gives_due =
-          ap (λ (x : List ℕ). render_gives (rules_of s b) (render_args out) render_fresh x marks) left_store ∙ rendered_due_lem store marks out
+          ap (λ (x : List ℕ). render_gives (rules_of s b) (render_args out) render_fresh x marks) left_store ∙ rendered_due_lem store read marks out
 
       pub render_answer_due : render_answer (rules_of s b) (render_args out) render_fresh (store_left s b c store) marks
-          ≡ answer_by (refusal_in s b c (rows_in store) (length marks) (length out)) (written rendered_due (length (drawn_due s b c).text))
+          ≡ answer_by (refusal_in s b c (rows_in store) (length marks) (length out)) (written rendered_due (length (drawn_due s b c).text) (entered_due store))
       render_answer_due =
-          ap₂ (λ (r : Option Refusal) (l : RenderResult RenderState). answer_by {A = CallResult (rules_of s b)} r (written l.state (length l.text)))
+          ap₂ (λ (r : Option Refusal) (l : RenderResult RenderState). answer_by {A = CallResult (rules_of s b)} r (written l.state (length l.text) l.entered))
           render_refusal_due
           gives_due
 
@@ -324,15 +378,15 @@ module _ (s b : List ℕ) where
 
       -- the greatest column that it tells
       pub render_widest_due : unless ((rules_of s b).render_refusal (render_args out) render_fresh (store_left s b c store) marks) 0
-          (widest_drawn s b render_fresh render_to (with_cleared (parts_of s b) [] (marks_needed (rows_due s b c - 0) (store_left s b c store) 0))
+          (widest_drawn s b render_fresh render_to MAX_ALLOTMENT (with_cleared (parts_of s b) [] (marks_needed (rows_due s b c - 0) (store_left s b c store) 0))
           (store_left s b c store))
           ≡ unless (refusal_in s b c (rows_in store) (length marks) (length out)) 0 (column_due s b c)
       render_widest_due =
           ap₂ (λ (r : Option Refusal) (n : ℕ). unless r 0 n) render_refusal_due
           (ap (λ (x : List ℕ).
-          widest_drawn s b render_fresh render_to (with_cleared (parts_of s b) [] (marks_needed (rows_due s b c - 0) x 0)) x)
+          widest_drawn s b render_fresh render_to MAX_ALLOTMENT (with_cleared (parts_of s b) [] (marks_needed (rows_due s b c - 0) x 0)) x)
           left_store
-          ∙ widest_due store)
+          ∙ widest_due store read)
 
 -- ---- the modes
 pub old_mode_is_fmt_parsed : OldModeIsFmtParsed

@@ -23,7 +23,7 @@ use Rattle.rows.specs.Node as node
 use Rattle.rows.specs.Rows.{size, sizes}
 use Rattle.rows.specs.Places.{KIND, NUMBER, SECOND_NUMBER, SECOND, AFTER, ORIGIN, START, SIZE, WIDTH}
 use Rattle.rows.specs.Texts.{origin_text}
-use Rattle.rows.specs.View.{View, cell, view_of}
+use Rattle.rows.specs.View.{View, cell, view_of, nodes_at}
 use Rattle.rows.specs.Words.{words}
 use Rattle.rows.specs.Nesting.{RangeIn, Nests, over, leaf, block, two, pair}
 use Rattle.rows.proofs.Nested.{leaf_within}
@@ -52,6 +52,7 @@ use Rattle.whole_run.specs.FileLimits.{MAX_IMAGE, RowsTextLimited, FileTextLimit
 use Rattle.whole_run.specs.Built.{layout_choice, render_choice, built, laid, marks_due}
 use Rattle.whole_run.proofs.Right.{Right, right}
 use Rattle.whole_run.proofs.Whole.{fmt_parsed_lem}
+use Rattle.whole_run.proofs.AllRows.{all_rows}
 use Rattle.whole_run.proofs.Limits.{stood, all_limited}
 use Rattle.whole_run.proofs.FileTable.{laid_passed, rows_fit}
 use Rattle.whole_run.proofs.File.{image_passes, layout_args}
@@ -228,7 +229,12 @@ file_text_limited s b c h =
     let g = (fmt_parsed_lem (read_earlier s b) s b).closed_in (layout_choice c) in
     let l = laid_to (read_earlier s b) s b (layout_args s b c) in
     let marks : List ℕ = replicate (marks_due s b c) 0 in
-    let e = ap (λ (d : Drawn). length d.text) (g.drawn_due_of (render_choice c) render_fresh marks refl) in
+    let row = l.state.cursor.row in
+    let n = sizes (nodes_at (view_of l.rows) 0 row) + row in
+    let e = ap (λ (d : Drawn). length d.text) (g.drawn_due_of (render_choice c) render_fresh n marks refl refl (omega arith)) in
+    let all =
+    ap (λ (d : Drawn). length d.text)
+    (all_rows s b render_fresh (record { stop = row; choice = render_choice c }) n marks l.rows refl (omega arith)) in
     let read = (laid_passed s b c file_rows h).earlier in
     let m =
     rows_text_limited (render_choice c) s b l.rows marks l.state.cursor.row (omega (arith, g.row_due, rows_fit s b c file_rows h))

@@ -1,8 +1,20 @@
 pub mod Local
 pub mod Past
+pub mod StopsPast
+pub mod Placed
+pub mod StopMarks
+pub mod StopTops
+pub mod StopsKeep
+pub mod StopsGrow
+pub mod StopsAlike
+pub mod StopsOn
+pub mod StopParts
+pub mod StopsJoin
 pub mod Marks
 pub mod Right
 pub mod RenderParts
+pub mod AllRows
+pub mod TopStops
 pub mod Laid
 pub mod LayoutParts
 pub mod Whole
@@ -15,3 +27,5 @@ pub mod File
 pub mod FileLimits
 pub mod Text
 pub mod Reference
+pub mod Allotments
+pub mod AllotmentExample

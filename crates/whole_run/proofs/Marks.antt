@@ -43,7 +43,7 @@ marks_add (suc n) m store i =
     omega arith
 
 -- ---- enough for its nodes
-each_under : (n : ℕ) (store : List ℕ) (i b : ℕ) → marks_needed n store i ≤ b → (k : ℕ) → i ≤ k → k < i + n → row_marks store k ≤ b
+pub each_under : (n : ℕ) (store : List ℕ) (i b : ℕ) → marks_needed n store i ≤ b → (k : ℕ) → i ≤ k → k < i + n → row_marks store k ≤ b
 unfolding marks_needed
 each_under zero store i b h k p q = absurd (omega arith)
 each_under (suc n) store i b h k p q = go (λ x y. each_under n store (suc i) b (omega arith) k x y) (dec_lt i k)

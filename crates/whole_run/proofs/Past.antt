@@ -44,7 +44,7 @@ cond_length : (c : Bool) (x y : Renderer) (n : ℕ) → marks_in x ≡ n → mar
 cond_length true x y n p q = p
 cond_length false x y n p q = q
 
-insert_length : (w : Bool) (n : ℕ) (r : Renderer) → marks_in (insert w n r) ≡ marks_in r
+pub insert_length : (w : Bool) (n : ℕ) (r : Renderer) → marks_in (insert w n r) ≡ marks_in r
 unfolding insert
 insert_length true n r = length-set r.marks n 1
 insert_length false n r = refl
@@ -65,7 +65,7 @@ module _ (p : Page) where
   mutual
     unfolding render_node render_nodes new_line push_str indent_more indent_less next_indent_more
 
-    render_length : (n : Node) (w : Bool) (r : Renderer) → marks_in (render_node p n w r) ≡ marks_in r
+    pub render_length : (n : Node) (w : Bool) (r : Renderer) → marks_in (render_node p n w r) ≡ marks_in r
     render_length (group n ns) w r = renders_length ns _ _ ∙ insert_length _ n r
     render_length (indent ns) w r = renders_length ns w (on_pen (indent_more w) r)
     render_length (indent_next ns) w r = renders_length ns w (on_pen (next_indent_more w) r)
@@ -86,7 +86,7 @@ module _ (p : Page) where
     renders_length (n then ns) w r = renders_length ns w (render_node p n w r) ∙ render_length n w r
 
 -- ---- marks past the numbers are not read
-wrapped_past : (m past : List ℕ) (n : ℕ) → n < length m → wrapped (m ++ past) n ≡ wrapped m n
+pub wrapped_past : (m past : List ℕ) (n : ℕ) → n < length m → wrapped (m ++ past) n ≡ wrapped m n
 wrapped_past m past n h = ap (λ (x : ℕ). eqb x 1) (get_or-append m past 0 n h)
 
 module _ (columns : Text → ℕ) (m past : List ℕ) where
@@ -159,7 +159,7 @@ module _ (ahead past : List ℕ) (before : ℕ) where
       ∙ ap (at_column 0) (push_ext (t ++ (0x0A ∷ [])) x)
       ∙ column_ext 0 (push_str (t ++ (0x0A ∷ [])) x)
 
-  insert_ext : (w : Bool) (n : ℕ) (r : Renderer) → n < length r.marks → insert w n (ext r) ≡ ext (insert w n r)
+  pub insert_ext : (w : Bool) (n : ℕ) (r : Renderer) → n < length r.marks → insert w n (ext r) ≡ ext (insert w n r)
   unfolding insert
   insert_ext true n r h = ap (λ (m : List ℕ). with_marks m (ext r)) (set-append_left r.marks past n 1 h)
   insert_ext false n r h = refl
@@ -168,11 +168,11 @@ module _ (ahead past : List ℕ) (before : ℕ) where
     wide_ext : (ns : Nodes) (r : Renderer) → Unders (length r.marks) ns → widths p.columns (r.marks ++ past) ns ≡ widths p.columns r.marks ns
     wide_ext ns r u = widths_past p.columns r.marks past ns u
 
-    group_wraps_ext : (ns : Nodes) (r : Renderer) → Unders (length r.marks) ns → group_wraps p ns (ext r) ≡ group_wraps p ns r
+    pub group_wraps_ext : (ns : Nodes) (r : Renderer) → Unders (length r.marks) ns → group_wraps p ns (ext r) ≡ group_wraps p ns r
     unfolding group_wraps wraps virtual_column
     group_wraps_ext ns r u = ap (λ (x : ℕ). wraps p (must_wraps ns) x r) (wide_ext ns r u)
 
-    trailing_ext : (e a : Nodes) (r : Renderer) → Unders (length r.marks) e → Unders (length r.marks) a
+    pub trailing_ext : (e a : Nodes) (r : Renderer) → Unders (length r.marks) e → Unders (length r.marks) a
         → trailing_call p e a (ext r) ≡ trailing_call p e a r
     unfolding trailing_call virtual_column
     trailing_ext e a r u v =
@@ -184,7 +184,7 @@ module _ (ahead past : List ℕ) (before : ℕ) where
         (wide_ext e r u)
         (wide_ext a r v)
 
-    callee_wraps_ext : (t : Bool) (e a : Nodes) (r : Renderer) → Unders (length r.marks) e → Unders (length r.marks) a
+    pub callee_wraps_ext : (t : Bool) (e a : Nodes) (r : Renderer) → Unders (length r.marks) e → Unders (length r.marks) a
         → callee_wraps p t e a (ext r) ≡ callee_wraps p t e a r
     unfolding callee_wraps group_wraps wraps virtual_column
     callee_wraps_ext t e a r u v =
@@ -228,7 +228,7 @@ module _ (ahead past : List ℕ) (before : ℕ) where
     mutual
       unfolding render_node render_nodes callee called grouped indent_more indent_less next_indent_more
 
-      render_ext : (n : Node) (w : Bool) (r : Renderer) → Under (length r.marks) n → render_node p n w (ext r) ≡ ext (render_node p n w r)
+      pub render_ext : (n : Node) (w : Bool) (r : Renderer) → Under (length r.marks) n → render_node p n w (ext r) ≡ ext (render_node p n w r)
       render_ext (group n ns) w r u = group_ext n ns r (λ w' r' u'. renders_ext ns w' r' u') u.0 u.1
       render_ext (indent ns) w r u = ap (on_pen (indent_less w)) (renders_ext ns w (on_pen (indent_more w) r) u)
       render_ext (indent_next ns) w r u = ap (on_pen (next_indent_less w)) (renders_ext ns w (on_pen (next_indent_more w) r) u)

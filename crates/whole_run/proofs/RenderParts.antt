@@ -1,32 +1,34 @@
--- The rendering laws that the cut rule asks, for `Renderer` over rows: top rows are rendered one after the other, and a call that goes on
--- writes what one go would have written there, with the text so far ahead.
+-- The rendering laws that the cut rule asks, for `Renderer` over rows: where a rendering from fresh stops, what it reads, and that a call that goes on
+-- from there writes what one go would have written, with the text so far ahead.
 -- Assumes nothing.
-use mathlib.Core.Path.{◌≡◌, sym, ap, ap₂, subst, ◌∙◌}
-use mathlib.Core.Bool.{true}
+use mathlib.Core.Path.{◌≡◌, refl, ap, ◌∙◌}
 use Rattle.std.specs.Prelude.{None}
-use mathlib.Core.List.{List, [], ◌++◌, append-nil}
+use mathlib.Core.Bool.{true}
+use mathlib.Core.List.{List}
 use Prim.Native.Nat.{ℕ, ◌+◌, ◌-◌, ◌≤◌, max}
 use native.Mathlib.Omega.{arith}
-use native.Mathlib.Nat.{max-zero}
 use lib.ListN.{length}
 use Rattle.image.specs.Read.{Read, Image}
-use Rattle.rows.specs.Node.{Nodes}
 use Rattle.rows.specs.View.{view_of, nodes_at}
+use Rattle.rows.specs.Nesting.{Nests}
 use Rattle.marks.specs.Marks.{marks_needed}
-use Rattle.renderer_rules.specs.Renderer.{Page, Renderer, with_buf, with_marks, with_widest, render_nodes}
+use Rattle.renderer_rules.specs.Renderer.{render_nodes}
 use Rattle.renderer_rules.specs.Check.{wrong_place_by}
-use Rattle.renderer_rules.proofs.Joined.{renders_ranges}
+use Rattle.renderer_rules.specs.Listed.{reads_from}
 use Rattle.cut_rule.specs.Rules.{RenderTo}
-use Rattle.cut_rule.specs.Laws.{RenderAfter, SameBefore}
-use Rattle.cut_rule.specs.States.{RenderChoice, RenderState}
-use Rattle.renderer_rules.specs.declared.Pen.{Pen}
+use Rattle.cut_rule.specs.Laws.{SameBefore, to_stop}
+use Rattle.cut_rule.specs.States.{RenderChoice, RenderState, render_fresh}
 use Rattle.cut_rule.specs.Parts.{Drawn}
-use Rattle.cut_rule.specs.PartLaws.{with_past, then_drawn, StoppedAt, RenderPartLaws}
-use Rattle.whole_run.specs.Parts.{renderer_of, drawn_by, page, rendering, drawn, parts_by}
-use Rattle.whole_run.proofs.Local.{nodes_local, cell_same, rows_same}
-use Rattle.whole_run.proofs.Past.{Unders, ext, renders_length, renders_ext}
+use Rattle.cut_rule.specs.PartLaws.{RenderPartLaws}
+use Rattle.whole_run.specs.Parts.{renderer_of, page, open_rows, still_entered, all_rendered, drawn, parts_by}
+use Rattle.whole_run.proofs.Local.{cell_same}
+use Rattle.whole_run.proofs.Past.{Unders}
 use Rattle.whole_run.proofs.Marks.{marks_local, marks_add, nodes_under}
-use Rattle.whole_run.proofs.Right.{right, none_found, right_none, right_both, right_same}
+use Rattle.whole_run.proofs.Right.{Right, right, none_found, right_none, right_both, right_same}
+use Rattle.whole_run.proofs.StopMarks.{Keeps, ahead_keeps, meaning_length}
+use Rattle.whole_run.proofs.StopTops.{all_get, reads_at_top}
+use Rattle.whole_run.proofs.StopParts.{fresh_drawn, row_at, fresh_enters, fresh_runs_out, fresh_further, fresh_nearer, fresh_past, fresh_local}
+use Rattle.whole_run.proofs.StopsJoin.{joined}
 
 -- the marks that the rows of a store need, from one up to a stop
 abbrev needed : List ℕ → ℕ → ℕ → ℕ
@@ -47,71 +49,42 @@ needed_local store other i n e = marks_local (n - i) store other i (λ k c p q l
 under_marks : (store marks : List ℕ) (i n : ℕ) → needed store 0 n ≤ length marks → Unders (length marks) (nodes_at (view_of store) i n)
 under_marks store marks i n h = nodes_under store (n - 0) 0 i n (length marks) h (omega arith) (omega arith)
 
--- ---- going on
--- what a renderer leaves with its text ahead
-abbrev with_ahead : Renderer → Drawn → Drawn
-with_ahead r d = record { pen = d.pen; marks = d.marks; text = r.buf ++ d.text }
-
-abbrev pen_of : Renderer → Pen
-pen_of r = (drawn_by r).pen
-
-abbrev remade : Renderer → List ℕ → List ℕ → ℕ → Renderer
-remade r t m c = with_buf t (with_marks m (with_widest c r))
-
--- to go on with a text is to go on without it, and to put it ahead
-resumed : (p : Page) (ns : Nodes) (r : Renderer) → Unders (length r.marks) ns
-    → drawn_by (render_nodes p ns true r) ≡ with_ahead r (drawn_by (render_nodes p ns true (renderer_of (pen_of r) r.marks)))
-resumed p ns r u =
-    let t = renderer_of (pen_of r) r.marks in
-    let e : ◌≡◌ {A = Renderer} (ext r.buf [] r.widest t) r =
-    ap₂ (λ (x m : List ℕ). remade r x m (max r.widest 0)) (append-nil r.buf) (append-nil r.marks)
-    ∙ ap (remade r r.buf r.marks) (max-zero r.widest) in
-    ap (λ (x : Renderer). drawn_by (render_nodes p ns true x)) (sym e)
-    ∙ ap drawn_by (renders_ext r.buf [] r.widest p ns true t u)
-    ∙ ap (λ (m : List ℕ). with_ahead r (record { pen = pen_of (render_nodes p ns true t); marks = m; text = (render_nodes p ns true t).buf }))
-    (append-nil (render_nodes p ns true t).marks)
-
 module _ (s b : List ℕ) where
-  draw_local : (z : RenderState) (q : RenderTo RenderChoice) (marks store other : List ℕ) → SameBefore q.stop store other
-      → drawn s b z q marks store ≡ drawn s b z q marks other
-  draw_local z q marks store other e =
-      ap (λ (ns : Nodes). drawn_by (render_nodes (page q.choice s b) ns true (renderer_of z.pen marks)))
-      (nodes_local (view_of store) (view_of other) z.row q.stop (rows_same q.stop store other e z.row))
+  -- rows that 11 lets pass nest
+  nests : (q : RenderTo RenderChoice) (store : List ℕ) → wrong_place_by q.choice.rule s b store 0 q.stop ≡ None → Nests (view_of store) 0 q.stop 0
+  nests q store u = (right q.choice.rule s b store 0 q.stop (omega arith) u).nests
 
-  draw_past : (z : RenderState) (q : RenderTo RenderChoice) (marks past store : List ℕ) → needed store 0 q.stop ≤ length marks
-      → drawn s b z q (marks ++ past) store ≡ with_past (drawn s b z q marks store) past
-  draw_past z q marks past store h =
-      ap drawn_by
-      (renders_ext [] past 0 (page q.choice s b) (nodes_at (view_of store) z.row q.stop) true (renderer_of z.pen marks)
-      (under_marks store marks z.row q.stop h))
-
-  -- to the stop of p, and on to row m
-  draw_on : (z : RenderState) (p : RenderTo RenderChoice) (m : ℕ) (marks store : List ℕ) → z.row ≤ p.stop → p.stop ≤ m
-      → wrong_place_by p.choice.rule s b store z.row p.stop ≡ None → needed store 0 m ≤ length marks
-      → drawn s b z (record { stop = m; choice = p.choice }) marks store
-      ≡ then_drawn (drawn s b z p marks store) (λ ms.
-      drawn_by (render_nodes (page p.choice s b) (nodes_at (view_of store) p.stop m) true (renderer_of (drawn s b z p marks store).pen ms)))
-  draw_on z p m marks store l h e g =
+  draw_marks : (z : RenderState) (q : RenderTo RenderChoice) (n : ℕ) (marks store : List ℕ) → length (drawn s b z q n marks store).marks ≡ length marks
+  draw_marks z q n marks store =
       let v = view_of store in
-      let y = page p.choice s b in
+      let p = page q.choice s b in
       let r = renderer_of z.pen marks in
-      let ns = nodes_at v p.stop m in
-      ap drawn_by (renders_ranges y m true r (right p.choice.rule s b store z.row p.stop l e).nests h)
-      ∙ resumed y ns (rendering s b z p marks store)
-      (subst (λ (k : ℕ). Unders k ns) (sym (renders_length y (nodes_at v z.row p.stop) true r)) (under_marks store marks p.stop m g))
+      (all_get (Keeps (length marks)) (still_entered s b z q marks store) n (all_rendered s b z q marks store)
+      (ahead_keeps v p (length marks) q.stop (open_rows v z) (length z.listed) z.row r refl)
+      (record { marks = meaning_length v p (length marks) q.stop (open_rows v z) (length z.listed) z.row r refl })).marks
 
-  draw_join : (z t : RenderState) (p q : RenderTo RenderChoice) (marks store : List ℕ) → z.row ≡ 0 → RenderAfter p q
-      → wrong_place_by p.choice.rule s b store 0 p.stop ≡ None → needed store 0 q.stop ≤ length marks → StoppedAt p.stop (drawn s b z p marks store) t
-      → drawn s b z q marks store ≡ then_drawn (drawn s b z p marks store) (λ ms. drawn s b t q ms store)
-  draw_join z t p q marks store start a e g there =
-      let row = sym there.row in
-      let pen = sym there.pen in
-      ap (λ (c : RenderChoice). drawn s b z (record { stop = q.stop; choice = c }) marks store) (sym a.same)
-      ∙ draw_on z p q.stop marks store (omega (arith, start)) a.not_past
-      (subst (λ (i : ℕ). wrong_place_by p.choice.rule s b store i p.stop ≡ None) (sym start) e) g
-      ∙ (λ i.
-      then_drawn (drawn s b z p marks store)
-      (λ ms. drawn_by (render_nodes (page (a.same i) s b) (nodes_at (view_of store) (row i) q.stop) true (renderer_of (pen i) ms))))
+  -- the rows before a top row that is not past the stop are right
+  right_to : (rule : ℕ) (store : List ℕ) (n m : ℕ) → Right rule s b store 0 n → m ≤ n → Nests (view_of store) 0 m 0 → Right rule s b store 0 m
+  right_to rule store n m r h g = record {
+    few = omega (arith, r.few);
+    room = omega (arith, r.room);
+    nests = g;
+    places = λ k a c. r.places k a (omega arith);
+  }
+
+  stop_top : (q : RenderTo RenderChoice) (n : ℕ) (marks store : List ℕ) → wrong_place_by q.choice.rule s b store 0 q.stop ≡ None
+      → wrong_place_by q.choice.rule s b store 0
+      (reads_from (drawn s b render_fresh q n marks store).listed (drawn s b render_fresh q n marks store).row)
+      ≡ None
+  stop_top q n marks store u =
+      let v = view_of store in
+      let p = page q.choice s b in
+      let start = renderer_of render_fresh.pen marks in
+      let g = nests q store u in
+      let t = reads_at_top v p q.stop g start (render_nodes p (nodes_at v 0 q.stop) true start) n in
+      let e = ap (λ (y : Drawn). reads_from y.listed y.row) (fresh_drawn s b q marks store n) in
+      ap (wrong_place_by q.choice.rule s b store 0) e
+      ∙ none_found q.choice.rule s b store 0 _ (right_to q.choice.rule store q.stop _ (right q.choice.rule s b store 0 q.stop (omega arith) u) t.1 t.0)
 
   pub render_parts : (r : Read Image) → RenderPartLaws (parts_by r s b)
   render_parts r = record {
@@ -123,9 +96,17 @@ module _ (s b : List ℕ) where
     right_local =
         λ c store other n e f. none_found c.rule s b other 0 n (right_same c.rule s b store other n e (right c.rule s b store 0 n (omega arith) f));
     needed_local = needed_local;
-    draw_local = draw_local;
-    draw_marks =
-        λ z q marks store. renders_length (page q.choice s b) (nodes_at (view_of store) z.row q.stop) true (renderer_of z.pen marks);
-    draw_past = λ z q marks past store start e h. draw_past z q marks past store h;
-    draw_join = λ z t p q marks store start a e f g there. draw_join z t p q marks store start a e g there;
+    draw_local = λ q n marks store other u e. fresh_local s b q marks store other (nests q store u) e n;
+    draw_marks = draw_marks;
+    draw_past = λ q n marks past store u h. fresh_past s b q marks past store (under_marks store marks 0 q.stop h) n;
+    stop_row = λ q n marks store u. (row_at s b q marks store (nests q store u) n).1;
+    stop_top = stop_top;
+    enters = λ q n marks store u. fresh_enters s b q marks store (nests q store u) n;
+    runs_out = λ q n marks store u. fresh_runs_out s b q marks store (nests q store u) n;
+    further_stop =
+        λ c f t n marks store h u w l. fresh_further s b c f t marks store h (nests (to_stop f c) store u) (nests (to_stop t c) store w) n l;
+    nearer_stop =
+        λ c t f n marks store h u w l m.
+        fresh_nearer s b c t f marks store h (nests (to_stop t c) store u) (nests (to_stop f c) store w) n l m;
+    draw_join = λ z q j k marks store u h there. joined s b q marks store (nests q store u) h j z k there;
   }

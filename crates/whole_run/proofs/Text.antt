@@ -37,16 +37,17 @@ use Rattle.renderer_rules.specs.Holds.{IsLine, comments_among, tokens_among, pie
 use Rattle.renderer_rules.proofs.Holds.{holds_the_comments, writes_pieces}
 use Rattle.refusals.specs.Refusals.{Refusal, unless}
 use Rattle.refusals.proofs.Answers.{accepted_by}
-use Rattle.cut_rule.specs.Rules.{LayoutArgs, RenderTo, LayoutResult, RenderResult}
+use Rattle.cut_rule.specs.Rules.{LayoutArgs, LayoutResult, RenderResult}
 use Rattle.cut_rule.specs.Run.{write_front, Carried, start, run}
-use Rattle.cut_rule.specs.Plain.{Progress, at_first, layout_due, render_due, laid_due, rendered_due, due, plain}
+use Rattle.cut_rule.specs.Plain.{RenderedTo, Progress, at_first, layout_due, render_due, laid_due, rendered_due, due, plain}
 use Rattle.cut_rule.specs.States.{LayoutChoice, RenderChoice, LayoutState, RenderState, layout_fresh, render_fresh, NEW_MODE}
-use Rattle.cut_rule.specs.Parts.{Piece}
+use Rattle.cut_rule.specs.Parts.{Piece, Drawn, with_cleared}
 use Rattle.cut_rule.proofs.Document.{LaidFits, RenderedRight, came_to}
 use Rattle.node_widths.specs.Summed.{laid_nodes as laid_by}
 use Rattle.node_widths.specs.Measured.{ascii_columns}
 use Rattle.whole_run.proofs.Laid.{laid_size, laid_pieces, laid_chosen}
-use Rattle.whole_run.specs.Parts.{listed, keeps_waiting, page, renderer_of, parts_of}
+use Rattle.whole_run.specs.Parts.{listed, keeps_waiting, page, renderer_of, drawn, parts_of}
+use Rattle.marks.specs.Marks.{marks_needed}
 use Rattle.whole_run.specs.Demands.{rules_of, Gives, laid_to}
 use Rattle.whole_run.specs.Built.{FileChoice, render_choice, tree, declared, built, laid as file_laid, marks_due, drawn_due}
 use Rattle.whole_run.specs.File.{file_refusal, file_result, FileResult, file_output}
@@ -58,6 +59,8 @@ use Rattle.whole_run.proofs.LayoutParts.{layout_parts}
 use Rattle.whole_run.proofs.RenderParts.{render_parts}
 use Rattle.whole_run.proofs.Local.{nodes_local, rows_same}
 use Rattle.whole_run.proofs.Right.{right}
+use Rattle.whole_run.proofs.StopParts.{row_at}
+use Rattle.whole_run.proofs.TopStops.{none_open, top, top_stop}
 use Rattle.whole_run.proofs.Whole.{call_piece_lem, gives}
 use Rattle.cut_rule.proofs.Memory.{same_before}
 
@@ -170,20 +173,41 @@ module _ (s b : List ℕ) where
     nests : Nests (view_of store) 0 d.state.row 0
     made : CommasChosen (nodes_at (view_of store) 0 d.state.row) → MadeOf (text_bytes s b) (pieces_between store 0 d.state.row) d.text
 
-  shown_nodes : (store : List ℕ) (d : Option (RenderTo RenderChoice))
+  shown_nodes : (store : List ℕ) (d : Option (RenderedTo RenderChoice))
       → RenderedRight (parts_of s b) (layout_parts (read_earlier s b) s b) (render_parts s b (read_earlier s b)) store d
+      → (render_due (rules_of s b) store d).state.listed ≡ []
       → ShownNodes store (render_due (rules_of s b) store d)
   unfolding pieces
-  shown_nodes store None k = record {
+  shown_nodes store None k none = record {
     room = omega arith;
     nests = over refl;
     made = λ chosen. subst (λ (ns : Nodes). MadeOf (text_bytes s b) (pieces ns) []) (sym (nodes_none (view_of store) 0 0 (omega arith))) (rest nothing);
   }
-  shown_nodes store (Some p) k = record {
-    room = k.0;
-    nests = (right p.choice.rule s b store 0 p.stop (omega arith) k.1).nests;
-    made = λ chosen. drawn_made (nodes_at (view_of store) 0 p.stop) chosen p.choice render_fresh.pen _;
-  }
+  shown_nodes store (Some p) k none =
+      let marks : List ℕ = with_cleared (parts_of s b) [] (marks_needed (p.to.stop - 0) store 0) in
+      let g = (right p.to.choice.rule s b store 0 p.to.stop (omega arith) k.1).nests in
+      let row = (drawn s b render_fresh p.to p.entered marks store).row in
+      let low = (row_at s b p.to marks store g p.entered).1 in
+      record {
+        room = omega (arith, k.0, low);
+        nests = top s b p.to p.entered marks store g none;
+        made =
+            λ chosen.
+            subst (λ (y : Drawn). MadeOf (text_bytes s b) (pieces_between store 0 row) y.text) (sym (top_stop s b p.to p.entered marks store g none))
+            (drawn_made (nodes_at (view_of store) 0 row) chosen p.to.choice render_fresh.pen marks);
+      }
+
+  -- where all rows are rendered, none is open
+  none_waiting : (store : List ℕ) (d : Option (RenderedTo RenderChoice))
+      → RenderedRight (parts_of s b) (layout_parts (read_earlier s b) s b) (render_parts s b (read_earlier s b)) store d
+      → PLACES * (render_due (rules_of s b) store d).state.row ≡ length store
+      → (render_due (rules_of s b) store d).state.listed ≡ []
+  none_waiting store None k e = refl
+  none_waiting store (Some p) k e =
+      let marks : List ℕ = with_cleared (parts_of s b) [] (marks_needed (p.to.stop - 0) store 0) in
+      let g = (right p.to.choice.rule s b store 0 p.to.stop (omega arith) k.1).nests in
+      let low = (row_at s b p.to marks store g p.entered).1 in
+      none_open s b p.to p.entered marks store g (omega (arith, e, k.0, low))
 
   -- ---- both, in a store with other rows behind
   module _ (store₀ marks₀ : List ℕ) (f : Progress (rules_of s b)) (l : LaidNodes (laid_due (rules_of s b) f))
@@ -275,9 +299,22 @@ calls_keep_the_text s b store₀ marks₀ calls h =
     let f = plain R store₀ marks₀ (at_first R) calls in
     let cut = rules_cut (read_earlier s b) s b store₀ marks₀ calls h in
     let k = came_to (parts_of s b) (layout_parts (read_earlier s b) s b) (render_parts s b (read_earlier s b)) store₀ marks₀ calls h in
-    let x : SoFar s b w =
-    subst (λ (v : Carried R). SoFar s b v) (sym cut.same)
-    (so_far s b store₀ marks₀ f (due_nodes s b f.laid_to_of k.laid) (shown_nodes s b (laid_due R f).rows f.rendered_to k.rendered))
+    let same = cut.same in
+    let laid = due_nodes s b f.laid_to_of k.laid in
+    let so : w.render_state_of.listed ≡ [] → SoFar s b w =
+    λ none.
+    subst (λ (v : Carried R). SoFar s b v) (sym same)
+    (so_far s b store₀ marks₀ f laid
+    (shown_nodes s b (laid_due R f).rows f.rendered_to k.rendered (sym (ap (λ (v : Carried R). v.render_state_of.listed) same) ∙ none)))
+    in
+    let open_none : AllRendered s b w → w.render_state_of.listed ≡ [] =
+    λ e.
+    ap (λ (v : Carried R). v.render_state_of.listed) same
+    ∙ none_waiting s b (laid_due R f).rows f.rendered_to k.rendered
+    (ap (λ (v : Carried R). PLACES * v.render_state_of.row) (sym same)
+    ∙ ap (λ (n : ℕ). PLACES * n) e
+    ∙ ap (λ (v : Carried R). PLACES * v.layout_state_of.cursor.row) same
+    ∙ laid.size)
     in
     let whole : AllRendered s b w → w.layout_state_of.closed ≡ true → IsWhole s b w =
     λ e closed.
@@ -285,11 +322,11 @@ calls_keep_the_text s b store₀ marks₀ calls h =
     ap (λ (v : Carried R). program_to s b v.layout_state_of) cut.same
     ∙ all_said s b f.laid_to_of k.laid (ap (λ (v : Carried R). v.layout_state_of.closed) (sym cut.same) ∙ closed)
     in
-    subst (λ (ts : List Token). Keeps s b w.layout_state_of.cursor.placed ts w.text) all (is_so_far s b w x e)
+    subst (λ (ts : List Token). Keeps s b w.layout_state_of.cursor.placed ts w.text) all (is_so_far s b w (so (open_none e)) e)
     in
     record {
-      so_far = x;
-      rendered = λ e. is_so_far s b w x e;
+      so_far = so;
+      rendered = λ e. is_so_far s b w (so (open_none e)) e;
       closed = whole;
       all =
           λ e closed new.

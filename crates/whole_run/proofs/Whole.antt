@@ -21,6 +21,7 @@ use Rattle.rows.proofs.Flatten.{flattened}
 use Rattle.acts.specs.Act.{Given, St, Act, ◌⨟◌, when, skip, next}
 use Rattle.acts.proofs.Joins.{sizes_join}
 use Rattle.node_widths.specs.Summed.{summed_all, laid_nodes}
+use Rattle.whole_run.proofs.AllRows.{all_rows}
 use Rattle.whole_run.proofs.Laid.{laid_size, laid_join}
 use Rattle.comments.specs.Comments.{nth}
 use Rattle.tree.specs.CommentList.{comments_of}
@@ -31,8 +32,8 @@ use Rattle.renderer_rules.specs.Renderer.{render_nodes}
 use Rattle.cut_rule.specs.Rules.{LayoutArgs}
 use Rattle.cut_rule.specs.Parts as cut
 use Rattle.cut_rule.specs.States.{LayoutChoice, RenderChoice, Cursor, LayoutState, RenderState, layout_fresh}
-use Rattle.cut_rule.specs.Parts.{Piece, still, and_then, begin, several, end}
-use Rattle.whole_run.specs.Parts.{accepted_tree, act_piece, declaration_act, keeps_waiting, renderer_of, drawn_by, page, drawn, parts_by}
+use Rattle.cut_rule.specs.Parts.{Piece, Drawn, still, and_then, begin, several, end}
+use Rattle.whole_run.specs.Parts.{accepted_tree, act_piece, declaration_act, keeps_waiting, renderer_of, whole_drawn, page, drawn, parts_by}
 use Rattle.whole_run.specs.Demands.{Gives, laid_to, stopping_at, closing_at, FmtParsed}
 
 -- ---- pieces
@@ -189,11 +190,17 @@ module _ (r : Read Image) (s b : List ℕ) where
       ∙ sym (piece_then k.rule s b (shebang_rule g tree.shebang) (declarations_rule g (take n ds) true) start)
 
   -- rows of nodes render as the nodes do, since they are read back as those
-  read_back : (ns : Nodes) (c : RenderChoice) (z : RenderState) (marks : List ℕ) → z.row ≡ 0
-      → drawn s b z (record { stop = sizes ns; choice = c }) marks (rows ns 0) ≡ drawn_by (render_nodes (page c s b) ns true (renderer_of z.pen marks))
-  read_back ns c z marks h =
-      ap (λ (x : Nodes). drawn_by (render_nodes (page c s b) x true (renderer_of z.pen marks)))
-      (ap₂ (nodes_at (view_of (rows ns 0))) h (sym (zero-add (sizes ns))) ∙ flattened ns (rows ns 0) 0 (take-length (rows ns 0)))
+  read_back : (ns : Nodes) (c : RenderChoice) (z : RenderState) (n : ℕ) (marks : List ℕ) → z.row ≡ 0 → z.listed ≡ [] → sizes ns ≤ n
+      → drawn s b z (record { stop = sizes ns; choice = c }) n marks (rows ns 0)
+      ≡ whole_drawn (sizes ns) (drawn s b z (record { stop = sizes ns; choice = c }) n marks (rows ns 0)).entered
+      (render_nodes (page c s b) ns true (renderer_of z.pen marks))
+  read_back ns c z n marks h l m =
+      let e : nodes_at (view_of (rows ns 0)) z.row (sizes ns) ≡ ns =
+      ap₂ (nodes_at (view_of (rows ns 0))) h (sym (zero-add (sizes ns))) ∙ flattened ns (rows ns 0) 0 (take-length (rows ns 0)) in
+      let all = all_rows s b z (record { stop = sizes ns; choice = c }) n marks (rows ns 0) l (omega (arith, m, ap sizes e)) in
+      all
+      ∙ ap₂ (λ (x : Nodes) (k : ℕ). whole_drawn (sizes ns) k (render_nodes (page c s b) x true (renderer_of z.pen marks))) e
+      (sym (ap (λ (y : Drawn). y.entered) all))
 
   -- a piece from the fresh cursor is what its step gives
   pub gives : (q : LayoutArgs LayoutChoice) (a : Act) → (laid_to r s b q).rows ≡ (act_piece q.choice.rule s b a start).rows
@@ -207,10 +214,23 @@ module _ (r : Read Image) (s b : List ℕ) where
     placed_due = ap (λ (c : Cursor). c.placed) f;
     left_due_of = ap (λ (c : Cursor). length (comments_of b) - c.placed) f;
     drawn_due_of =
-        λ k z marks h.
-        ap₂ (λ (x : List ℕ) (n : ℕ). drawn s b z (record { stop = n; choice = k }) marks x) e
-        (ap (λ (c : Cursor). c.row) f ∙ zero-add (sizes (a fresh).nodes) ∙ sym (laid_size q.choice.rule s b (a fresh).nodes))
-        ∙ read_back (laid_nodes q.choice.rule s b (a fresh).nodes) k z marks h;
+        λ k z m marks h l n.
+        let ns = laid_nodes q.choice.rule s b (a fresh).nodes in
+        let row = ap (λ (c : Cursor). c.row) f ∙ zero-add (sizes (a fresh).nodes) ∙ sym (laid_size q.choice.rule s b (a fresh).nodes) in
+        subst
+        (λ (x : List ℕ).
+        drawn s b z (record { stop = (laid_to r s b q).state.cursor.row; choice = k }) m marks x
+        ≡ whole_drawn (laid_to r s b q).state.cursor.row
+        (drawn s b z (record { stop = (laid_to r s b q).state.cursor.row; choice = k }) m marks x).entered
+        (render_nodes (page k s b) ns true (renderer_of z.pen marks)))
+        (sym e)
+        (subst
+        (λ (j : ℕ).
+        drawn s b z (record { stop = j; choice = k }) m marks (rows ns 0)
+        ≡ whole_drawn j (drawn s b z (record { stop = j; choice = k }) m marks (rows ns 0)).entered
+        (render_nodes (page k s b) ns true (renderer_of z.pen marks)))
+        (sym row)
+        (read_back ns k z m marks h l (omega (arith, n, row))));
   }
 
   closed_in : (k : LayoutChoice) → Gives k.rule s b (whole_rule g tree (keeps_waiting k.mode) fresh) (laid_to r s b (closing_at k (length ds)))

@@ -14,8 +14,7 @@ use Rattle.renderer_rules.specs.Renderer.{render_nodes}
 use Rattle.renderer_rules.specs.Widest.{greatest_column}
 use Rattle.cut_rule.specs.Limits.{REFERENCE_WIDTH}
 use Rattle.cut_rule.specs.States.{LayoutChoice, RenderChoice, render_fresh, OLD_MODE}
-use Rattle.cut_rule.specs.Parts.{Drawn}
-use Rattle.whole_run.specs.Parts.{accepted_tree, keeps_waiting, renderer_of, drawn_by, page}
+use Rattle.whole_run.specs.Parts.{accepted_tree, keeps_waiting, renderer_of, Shown, shown_by, page}
 
 -- What a caller of a whole file chooses: "other entries over whole files take their caller's choice".
 pub record FileChoice : Type 0 where
@@ -59,8 +58,8 @@ module _ (s b : List ℕ) where
   marks_due c = marks_needed (rows_due c) (rows (laid c) 0) 0
 
   -- what `Renderer` makes of it, with the width and that many marks, all cleared
-  abbrev pub drawn_due : FileChoice → Drawn
-  drawn_due c = drawn_by (render_nodes (page (render_choice c) s b) (laid c) true (renderer_of render_fresh.pen (replicate (marks_due c) 0)))
+  abbrev pub drawn_due : FileChoice → Shown
+  drawn_due c = shown_by (render_nodes (page (render_choice c) s b) (laid c) true (renderer_of render_fresh.pen (replicate (marks_due c) 0)))
 
   -- "greatest value `column` takes"
   abbrev pub column_due : FileChoice → ℕ

@@ -1,6 +1,6 @@
 -- What is claimed of the rules; proofs/Demands.antt proves it, and nothing is assumed. The demands of the functions, by what they promise, are
 -- in crates/demands/specs; they rest on these. The marked edges are in Edges.antt, a whole file in File.antt.
-use Rattle.std.specs.Prelude.{◌≡◌, Bool, true, false, List, ℕ, ◌-◌, ◌≤◌, length, take, None}
+use Rattle.std.specs.Prelude.{◌≡◌, Bool, true, false, List, [], ℕ, ◌-◌, ◌≤◌, length, take, None}
 use Rattle.image.specs.Read.{Read, Image, read_all, read_earlier, read_refusal}
 use Rattle.ast.specs.Syntax.{SyntaxTree}
 use Rattle.rows.specs.Limits.{MAX_ROWS, MAX_NUMBER}
@@ -13,14 +13,14 @@ use Rattle.layout.specs.Closing.{fresh, up_to, whole_rule}
 use Rattle.renderer_rules.specs.Renderer.{render_nodes}
 use Rattle.node_widths.specs.Summed.{laid_nodes}
 use Rattle.renderer_rules.specs.Check.{wrong_place_by}
-use Rattle.cut_rule.specs.Rules.{LayoutArgs, LayoutResult, Rules}
+use Rattle.cut_rule.specs.Rules.{LayoutArgs, RenderTo, LayoutResult, Rules}
 use Rattle.cut_rule.specs.Run.{Call, start}
 use Rattle.cut_rule.specs.Entries.{layout_answer, layout_store}
 use Rattle.cut_rule.specs.Plain.{AllReadLaid}
 use Rattle.cut_rule.specs.CutRule.{CutRule}
 use Rattle.cut_rule.specs.States.{LayoutChoice, RenderChoice, LayoutState, RenderState, layout_fresh, OLD_MODE}
 use Rattle.cut_rule.specs.Parts.{laid_of, rules}
-use Rattle.whole_run.specs.Parts.{accepted_tree, listed, keeps_waiting, renderer_of, drawn_by, page, drawn, parts_by}
+use Rattle.whole_run.specs.Parts.{accepted_tree, listed, keeps_waiting, renderer_of, whole_drawn, page, drawn, parts_by}
 
 -- the rules and the table for one source s and one image b, by what was read of the image
 abbrev pub rules_by : Read Image → List ℕ → List ℕ → Rules
@@ -64,9 +64,11 @@ pub record Gives (rule : ℕ) (s b : List ℕ) (o : Out) (l : LayoutResult Layou
   pub position_due : l.state.cursor.position ≡ o.pos
   pub placed_due : l.state.cursor.placed ≡ o.placed
   pub left_due_of : l.left ≡ length (comments_of b) - o.placed
-  pub drawn_due_of : (c : RenderChoice) (z : RenderState) (marks : List ℕ) → z.row ≡ 0
-      → drawn s b z (record { stop = l.state.cursor.row; choice = c }) marks l.rows
-      ≡ drawn_by (render_nodes (page c s b) (laid_nodes rule s b o.nodes) true (renderer_of z.pen marks))
+  pub drawn_due_of : (c : RenderChoice) (z : RenderState) (n : ℕ) (marks : List ℕ) → z.row ≡ 0 → z.listed ≡ [] → l.state.cursor.row ≤ n
+      → (let q : RenderTo RenderChoice = record { stop = l.state.cursor.row; choice = c } in
+      drawn s b z q n marks l.rows
+      ≡ whole_drawn q.stop (drawn s b z q n marks l.rows).entered
+      (render_nodes (page c s b) (laid_nodes rule s b o.nodes) true (renderer_of z.pen marks)))
 
 -- layout from fresh, in one go
 abbrev pub laid_to : Read Image → List ℕ → List ℕ → LayoutArgs LayoutChoice → LayoutResult LayoutState

@@ -11,8 +11,7 @@ use Rattle.rows.specs.Rows.{sizes, rows}
 use Rattle.rows.specs.View.{cell}
 use Rattle.tree.specs.CommentList.{span}
 use Rattle.cut_rule.specs.Run.{layout_call, render_call, Carried, start, run}
-use Rattle.cut_rule.specs.Limits.{REFERENCE_WIDTH}
-use Rattle.cut_rule.specs.Rules.{RenderTo}
+use Rattle.cut_rule.specs.Limits.{REFERENCE_WIDTH, MAX_ALLOTMENT}
 use Rattle.cut_rule.specs.States.{RenderChoice, layout_fresh, OLD_MODE, NEW_MODE}
 use Rattle.renderer_rules.specs.Renderer.{Renderer, render_node}
 use Rattle.whole_run.specs.Parts.{page}
@@ -89,12 +88,19 @@ renders_at width e =
         row = 0;
         width = 0;
         rule = 0;
+        listed = [];
       };
       text = [];
       left = None;
     } in
-    let to : RenderTo RenderChoice = record { stop = sizes e.nodes; choice = record { width = width; rule = SUPPLIED } } in
-    seen e.source no_body (run r w (render_call (record { to = to; room = 300 }) ∷ []))
+    seen e.source no_body
+    (run r w
+    (render_call (record {
+      to = record { stop = sizes e.nodes; choice = record { width = width; rule = SUPPLIED } };
+      allotment = MAX_ALLOTMENT;
+      room = 300;
+    })
+    ∷ []))
 
 -- "two bytes, the number of comments; for each, start and end, four bytes each; one tree record"
 abbrev pub pairs : List Span → List ℕ
@@ -116,7 +122,11 @@ formats_as f =
     seen f.source image
     (run r (start r (replicate 216 0) (0 ∷ 0 ∷ []))
     (layout_call (closing_at (record { mode = f.mode; rule = SUPPLIED }) (length f.declarations))
-    ∷ render_call (record { to = record { stop = f.rows; choice = record { width = REFERENCE_WIDTH; rule = SUPPLIED } }; room = 200 })
+    ∷ render_call (record {
+      to = record { stop = f.rows; choice = record { width = REFERENCE_WIDTH; rule = SUPPLIED } };
+      allotment = MAX_ALLOTMENT;
+      room = 200;
+    })
     ∷ []))
 
 abbrev pub observed : Edge → Seen

@@ -7,3 +7,4 @@ pub mod File
 pub mod FileLimits
 pub mod Text
 pub mod Reference
+pub mod Allotments

@@ -1,13 +1,14 @@
 -- Document 01's rules for one source s and one image b, as the cut rule takes them. Each part is a definition of a lower layer; here they are
 -- only put together.
-use Rattle.std.specs.Prelude.{Bool, true, cond, not, ◌&&◌, List, [], ◌∷◌, map, ℕ, ◌+◌, ◌-◌, eqb, length, Option, None, Some}
+use Rattle.std.specs.Prelude.{Bool, cond, not, ◌&&◌, List, [], ◌∷◌, ◌++◌, map, ℕ, ◌+◌, ◌-◌, min, eqb, length, get_or, replicate, Option, None, Some}
 use Rattle.text.specs.Utf8.{ill_formed}
 use Rattle.text.specs.Space.{trim_end}
 use Rattle.image.specs.Read.{Read, got, bad, Image, version, header_fits, any_version, source_fits, read_all, read_earlier, read_refusal}
 use Rattle.ast.specs.Syntax.{Declaration, SyntaxTree}
 use Rattle.tree.specs.Records.{syntax_tree}
 use Rattle.rows.specs.Rows.{sizes, rows}
-use Rattle.rows.specs.View.{view_of, nodes_at}
+use Rattle.rows.specs.Limits.{MAX_DEPTH}
+use Rattle.rows.specs.View.{View, view_of}
 use Rattle.marks.specs.Marks.{marks_needed}
 use Rattle.acts.specs.Act.{Act, skip}
 use Rattle.comments.specs.Comments.{nth}
@@ -15,7 +16,11 @@ use Rattle.tree.specs.CommentList.{comments_of}
 use Rattle.comments.specs.Listed.{given}
 use Rattle.layout.specs.Layout.{shebang_rule, declaration}
 use Rattle.layout.specs.Closing.{closing}
-use Rattle.renderer_rules.specs.Renderer.{Page, Renderer, fresh_renderer, render_nodes}
+use Rattle.renderer_rules.specs.declared.Frame.{Frame}
+use Rattle.renderer_rules.specs.Frames.{no_frame}
+use Rattle.renderer_rules.specs.Renderer.{Page, Renderer, fresh_renderer}
+use Rattle.renderer_rules.specs.Stops.{Stop, stop_at, ahead, meaning}
+use Rattle.renderer_rules.specs.Listed.{resumed}
 use Rattle.renderer_rules.specs.Check.{wrong_place_by}
 use Rattle.widths.specs.Rules.{SUPPLIED, UNICODE_16_0}
 use Rattle.node_widths.specs.Summed.{laid_nodes}
@@ -69,27 +74,64 @@ abbrev pub keeps_waiting : ℕ → Bool
 keeps_waiting mode = eqb mode NEW_MODE
 
 -- ---- rendering
--- `Renderer` as a call makes it, and what a call takes from it
+-- `Renderer` as a call makes it
 abbrev pub renderer_of : Pen → List ℕ → Renderer
 renderer_of z marks = fresh_renderer z marks
-
-abbrev pub drawn_by : Renderer → Drawn
-drawn_by r = record { pen = r.pen; marks = r.marks; text = r.buf }
 
 -- "The rules are the Rust's with that number": the width is `max`; `Ascii` texts measure by the rule
 abbrev pub page : RenderChoice → List ℕ → List ℕ → Page
 page c s b = rule_page c.width c.rule s b
 
--- the rows from the state's next row up to the stop; what is read counts as top rows, so that `wrap` is true
-abbrev pub rendering : List ℕ → List ℕ → RenderState → RenderTo RenderChoice → List ℕ → List ℕ → Renderer
-rendering s b z q marks store = render_nodes (page q.choice s b) (nodes_at (view_of store) z.row q.stop) true (renderer_of z.pen marks)
+-- the rows that a state lists, as they go on
+abbrev pub open_rows : View → RenderState → List Frame
+open_rows v z = map (resumed v z.row) z.listed ++ replicate (MAX_DEPTH - length z.listed) no_frame
 
-abbrev pub drawn : List ℕ → List ℕ → RenderState → RenderTo RenderChoice → List ℕ → List ℕ → Drawn
-drawn s b z q marks store = drawn_by (rendering s b z q marks store)
+-- what a call takes from where a rendering stopped, and how many rows it entered
+abbrev pub drawn_at : Stop → ℕ → Drawn
+drawn_at e n = record {
+  pen = e.state.pen;
+  listed = e.listed;
+  row = e.next;
+  marks = e.state.marks;
+  text = e.state.buf;
+  entered = n;
+}
+
+-- all rendered, up to a row
+abbrev pub whole_drawn : ℕ → ℕ → Renderer → Drawn
+whole_drawn row n r = drawn_at (stop_at row [] r) n
+
+-- what a whole file takes from it
+pub record Shown : Type 0 where
+  pub pen : Pen
+  pub marks : List ℕ
+  pub text : List ℕ
+
+abbrev pub shown_by : Renderer → Shown
+shown_by r = record { pen = r.pen; marks = r.marks; text = r.buf }
+
+module _ (s b : List ℕ) (z : RenderState) (q : RenderTo RenderChoice) (marks store : List ℕ) where
+  -- from a state, over the rows up to the stop: the rows that are still entered, and the end
+  abbrev pub still_entered : List Stop
+  still_entered =
+      let v = view_of store in
+      ahead v (page q.choice s b) q.stop (open_rows v z) (length z.listed) z.row (renderer_of z.pen marks)
+
+  abbrev pub all_rendered : Stop
+  all_rendered =
+      let v = view_of store in
+      stop_at q.stop [] (meaning v (page q.choice s b) q.stop (open_rows v z) (length z.listed) z.row (renderer_of z.pen marks))
+
+-- A rendering that may enter n rows stops where row n + 1 would be entered, or in the end.
+abbrev pub stopped : List ℕ → List ℕ → RenderState → RenderTo RenderChoice → ℕ → List ℕ → List ℕ → Stop
+stopped s b z q n marks store = get_or (still_entered s b z q marks store) n (all_rendered s b z q marks store)
+
+abbrev pub drawn : List ℕ → List ℕ → RenderState → RenderTo RenderChoice → ℕ → List ℕ → List ℕ → Drawn
+drawn s b z q n marks store = drawn_at (stopped s b z q n marks store) (min n (length (still_entered s b z q marks store)))
 
 -- the greatest value that `column` is set to there
-abbrev pub widest_drawn : List ℕ → List ℕ → RenderState → RenderTo RenderChoice → List ℕ → List ℕ → ℕ
-widest_drawn s b z q marks store = (rendering s b z q marks store).widest
+abbrev pub widest_drawn : List ℕ → List ℕ → RenderState → RenderTo RenderChoice → ℕ → List ℕ → List ℕ → ℕ
+widest_drawn s b z q n marks store = (stopped s b z q n marks store).state.widest
 
 -- ---- the whole
 -- By what the earlier rule read of the image, whose tree is laid out: another way to read is another r. What the strict rule refuses it

@@ -17,13 +17,13 @@ use Rattle.renderer_rules.specs.Page.{page_of}
 use Rattle.renderer_rules.specs.Check.{wrong_place}
 use Rattle.refusals.specs.Refusals.{Refusal, unless, first, refuse_if, refuse_at, any}
 use Rattle.refusals.specs.Answers.{Answer, answer_by}
-use Rattle.cut_rule.specs.Limits.{REFERENCE_WIDTH}
-use Rattle.cut_rule.specs.Rules.{RenderTo, RenderArgs}
+use Rattle.cut_rule.specs.Limits.{REFERENCE_WIDTH, MAX_ALLOTMENT}
+use Rattle.cut_rule.specs.Rules.{RenderTo, RenderArgs, RenderResult}
 use Rattle.cut_rule.specs.Run.{write_front}
 use Rattle.cut_rule.specs.States.{RenderChoice, RenderState, render_fresh}
 use Rattle.cut_rule.specs.Tests.{rows_in, row_tests, pen_tests, mark_tests}
-use Rattle.cut_rule.specs.Parts.{Drawn, with_cleared, rule_line, width_line, render_table, rendered_of}
-use Rattle.whole_run.specs.Parts.{other_rule, renderer_of, drawn_by, parts_of}
+use Rattle.cut_rule.specs.Parts.{with_cleared, rule_line, width_line, render_table, rendered_of}
+use Rattle.whole_run.specs.Parts.{other_rule, renderer_of, Shown, shown_by, parts_of}
 use Rattle.whole_run.specs.Built.{reference_choice, render_choice, tree, built}
 use Rattle.whole_run.specs.File.{file_rows, file_marks, mode_line, file_refusal, FileResult, file_answer, file_output}
 
@@ -44,8 +44,8 @@ module _ (s b : List ℕ) where
   marks_then = marks_needed rows_then (rows built_then.nodes 0) 0
 
   -- what `Renderer` makes of it
-  abbrev pub drawn_then : Drawn
-  drawn_then = drawn_by (render_nodes (page_of 80 s b) built_then.nodes true (renderer_of render_fresh.pen (replicate marks_then 0)))
+  abbrev pub drawn_then : Shown
+  drawn_then = shown_by (render_nodes (page_of 80 s b) built_then.nodes true (renderer_of render_fresh.pen (replicate marks_then 0)))
 
   -- 20, which with supplied widths is of an image of version 2 alone
   abbrev pub version_then : Option Refusal
@@ -85,9 +85,9 @@ module _ (s b : List ℕ) where
 
   -- ---- a rendering call
   -- what the rows from the state's next row up to a stop give
-  abbrev pub call_drawn : RenderState → List ℕ → List ℕ → ℕ → Drawn
+  abbrev pub call_drawn : RenderState → List ℕ → List ℕ → ℕ → Shown
   call_drawn z marks store stop =
-      drawn_by
+      shown_by
       (render_nodes (page_of 80 s b) (nodes_at (view_of store) z.row stop) true
       (renderer_of z.pen (with_cleared (parts_of s b) marks (marks_needed (stop - z.row) store z.row))))
 
@@ -113,26 +113,32 @@ module _ (s b : List ℕ) where
       ∷ refuse_if (ltb q.room bytes) 10 bytes
       ∷ [])
 
-  -- of a call that chooses 80 and supplied widths, from a state that carries none yet or these
+  -- Of a call that chooses 80 and supplied widths, from a state that carries none yet or these and lists no rows, with the largest allotment: 22 and 23
+  -- refuse nothing, and where 11 does not refuse, all rows up to the stop are rendered.
   pub record CallAsBefore (stop room : ℕ) (z : RenderState) (store marks : List ℕ) : Type 0 where
     pub refusal :
-        (let q : RenderArgs RenderChoice = record { to = at_reference stop; room = room } in
+        (let q : RenderArgs RenderChoice = record { to = at_reference stop; allotment = MAX_ALLOTMENT; room = room } in
         first (render_table (parts_of s b) q z store marks) ≡ call_refusal q z store marks)
-    pub rendered : rendered_of (parts_of s b) z (at_reference stop) marks store ≡ record {
-      state = record {
-        pen = (call_drawn z marks store stop).pen;
-        in_use = max z.in_use (marks_needed (stop - z.row) store z.row);
-        row = stop;
-        width = 80;
-        rule = SUPPLIED;
-      };
-      marks = (call_drawn z marks store stop).marks;
-      text = (call_drawn z marks store stop).text;
-    }
+    pub rendered : wrong_place s b store z.row stop ≡ None
+        → (let r : RenderResult RenderState = rendered_of (parts_of s b) z (at_reference stop) MAX_ALLOTMENT marks store in
+        r ≡ record {
+          state = record {
+            pen = (call_drawn z marks store stop).pen;
+            in_use = max z.in_use (marks_needed (stop - z.row) store z.row);
+            row = stop;
+            width = 80;
+            rule = SUPPLIED;
+            listed = [];
+          };
+          marks = (call_drawn z marks store stop).marks;
+          text = (call_drawn z marks store stop).text;
+          entered = r.entered;
+        })
 
 abbrev pub ReferenceHolds : Type 0
 ReferenceHolds =
     (s b : List ℕ)
     → FileAsBefore s b
-    × ((stop room : ℕ) (z : RenderState) (store marks : List ℕ) → (z.width ≡ 0) ⊎ (z.width ≡ REFERENCE_WIDTH)
-    → (z.rule ≡ 0) ⊎ (z.rule ≡ SUPPLIED) → CallAsBefore s b stop room z store marks)
+    × ((stop room : ℕ) (z : RenderState) (store marks : List ℕ)
+    → (z.width ≡ 0) ⊎ (z.width ≡ REFERENCE_WIDTH) → (z.rule ≡ 0) ⊎ (z.rule ≡ SUPPLIED) → z.listed ≡ []
+    → CallAsBefore s b stop room z store marks)

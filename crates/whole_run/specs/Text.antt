@@ -62,8 +62,9 @@ program_to s b l = cond l.begun (shebang_tokens b (tree s b).shebang) [] & decla
 abbrev pub pieces_between : List ℕ → ℕ → ℕ → List Piece
 pieces_between store i j = pieces (nodes_at (view_of store) i j)
 
--- What calls leave, at every moment: the text joined in call order is made of the pieces of the rows rendered so far. With those of the rows
--- that are laid out and not rendered yet, these are the comments placed and the program as far as layout came.
+-- What calls leave, at every moment when no row is open: the text joined in call order is made of the pieces of the rows rendered so far. With
+-- those of the rows that are laid out and not rendered yet, these are the comments placed and the program as far as layout came. (At a stop inside
+-- a row, CutRule.antt says it of the comments.)
 pub record SoFar (s b : List ℕ) (w : Carried (rules_of s b)) : Type 0 where
   pub made : MadeOf (text_bytes s b) (pieces_between w.store 0 w.render_state_of.row) w.text
   pub comments : comments_among (pieces_between w.store 0 w.render_state_of.row)
@@ -89,7 +90,7 @@ IsWholeWithAll s b w = IsProgram s b (length (listed s b)) w.text
 
 -- all of it, of what calls leave
 pub record TextKept (s b : List ℕ) (w : Carried (rules_of s b)) : Type 0 where
-  pub so_far : SoFar s b w
+  pub so_far : w.render_state_of.listed ≡ [] → SoFar s b w
   pub rendered : AllRendered s b w → IsSoFar s b w
   pub closed : AllRendered s b w → w.layout_state_of.closed ≡ true → IsWhole s b w
   pub all : AllRendered s b w → w.layout_state_of.closed ≡ true → w.layout_state_of.mode ≡ NEW_MODE → IsWholeWithAll s b w

@@ -6,7 +6,7 @@ pub mod output;
 mod pairs;
 mod payload;
 mod records;
-mod step;
+pub mod step;
 mod whole;
 
 ghost use Rattle.writer.specs.Wrote.{Writes, Lists};

@@ -13,7 +13,7 @@ use image::kinds::Kind;
 
 // What the first byte of a step says that it is.
 #[derive(Clone, Copy)]
-pub(crate) enum Code {
+pub enum Code {
     Comment = 1,
     Open = 2,
     Text = 3,

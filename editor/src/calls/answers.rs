@@ -33,6 +33,9 @@ pub struct Written {
     pub state: RenderState,
     /// How many bytes of the output were written, from its start on.
     pub bytes: usize,
+    /// How many rows were entered: as many as the call was allotted, or, if
+    /// fewer, all that there were.
+    pub entered: usize,
 }
 
 /// What [`format_file`](super::format_file) answers.

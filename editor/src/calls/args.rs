@@ -1,5 +1,7 @@
 //! What a call is told to do.
 
+use crate::limits::ALL_ROWS;
+
 /// What a layout call is told to do.
 ///
 /// ```
@@ -40,11 +42,24 @@ impl LayoutArgs {
 pub struct RenderArgs {
     /// The row to stop before.
     pub stop: usize,
+    /// How many rows may be entered; at least one.
+    pub allotment: usize,
 }
 
 impl RenderArgs {
-    /// Render up to this row, that one not included.
+    /// Render up to this row, that one not included, whatever rows there are.
     pub fn up_to(stop: usize) -> Self {
-        RenderArgs { stop }
+        RenderArgs {
+            stop,
+            allotment: ALL_ROWS,
+        }
+    }
+
+    /// The same, but enter at most so many rows and stop when they are spent,
+    /// wherever that is: the next call goes on from there.
+    #[must_use]
+    pub fn with_allotment(mut self, rows: usize) -> Self {
+        self.allotment = rows;
+        self
     }
 }

@@ -45,7 +45,9 @@ pub use answers::{
     Accepted, BatchWritten, FileWritten, Laid, Newlines, Verdict, Written,
 };
 pub use args::{LayoutArgs, RenderArgs};
-pub use states::{LayoutState, RenderState};
+pub use states::{LayoutState, ListedRow, RenderState, Way};
+
+use states::RENDER_STATE;
 
 /// How many numbers of the store a row takes. A store has its length / 9
 /// rows, rounded down.
@@ -154,14 +156,19 @@ fn laid(out: [u64; 11]) -> Result<Laid, Refusal> {
     })
 }
 
-/// Renders the rows up to the one to stop before. The store is lent for the
-/// time of the call and is the same after it. All calls of a run choose the
+/// The places of a rendering call's answer: 0, the bytes written, the rows
+/// entered, then the new state.
+const RENDER_OUT: usize = 3 + RENDER_STATE;
+
+/// Renders the rows up to the one to stop before, and of them as many as are
+/// allotted. The store is lent for the time of the call and is the same after
+/// it. All calls of a run choose the
 /// same width and widths: literals are measured here. Names are as wide as
 /// layout wrote, whatever is chosen here, so choose the same there.
 ///
 /// # Errors
 ///
-/// Refusals 20 (as [`layout`]), 1, 3, 11, 12, 15, 9, 10; by an edition of Unicode also 2, before
+/// Refusals 20 (as [`layout`]), 1, 3, 11, 12, 15, 22, 23, 9, 10; by an edition of Unicode also 2, before
 /// 3, and 11 for a row's text that isn't UTF-8 or cuts a character. A refused
 /// call leaves marks and output as they were.
 pub fn render(
@@ -174,18 +181,26 @@ pub fn render(
     options: &Options,
 ) -> Result<Written, Refusal> {
     let File { source, image } = file;
-    let from = numbers(state.numbers());
+    let from = state.numbers();
     let rule = options.widths.rule();
-    let args = numbers([args.stop, options.width, rule]);
-    let mut out = [0; 9];
+    let args = [args.stop, options.width, rule, args.allotment];
+    let mut out = [0; RENDER_OUT];
     linked::render(
-        source, image, store, marks, output, &from, &args, &mut out,
+        source,
+        image,
+        store,
+        marks,
+        output,
+        &from,
+        &numbers(args),
+        &mut out,
     );
-    let [number, bytes, state @ ..] = sizes(out);
+    let [number, bytes, entered, state @ ..] = sizes(out);
     refused(number, bytes)?;
     Ok(Written {
-        state: RenderState::from_numbers(state),
+        state: RenderState::from_numbers(&state),
         bytes,
+        entered,
     })
 }
 

@@ -20,6 +20,7 @@ include!(concat!(env!("OUT_DIR"), "/declare_fmt.rs"));
 
 pub use fmt::driver;
 
+pub mod allotment;
 pub mod answers;
 pub mod batch;
 pub mod calls;
@@ -33,6 +34,7 @@ pub mod generate;
 pub mod grammar;
 pub mod holds;
 pub mod image;
+pub mod listed;
 pub mod mode;
 pub mod moves;
 pub mod newlines;

@@ -26,6 +26,7 @@ usage: judge run [--true-widths] < frame      what the program must write
        judge size-answers                     the same for all sizes
        judge render-answers                   the same for rows made for it
        judge rule-answers                     the same for rules of widths
+       judge allotment-answers                the same for allotments
        judge stored-frames                    a fixed set of frames, answered
        judge stored-calls                     a fixed set of lists, answered
        judge stored-table                     what the fixed sets reach
@@ -108,6 +109,10 @@ fn command(words: &[&str]) -> Result<Pieces, String> {
         }
         ["rule-answers"] => {
             let cases = generate::rule_cases().into_iter();
+            Box::new(cases.map(|case| answers::calls::answered(&case)))
+        }
+        ["allotment-answers"] => {
+            let cases = generate::allotment_cases().into_iter();
             Box::new(cases.map(|case| answers::calls::answered(&case)))
         }
         ["stored-frames"] => {

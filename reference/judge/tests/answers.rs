@@ -148,8 +148,16 @@ fn skip_world(input: &mut Input) -> usize {
     let cells = input.number(4);
     input.bytes(4 * cells);
     let marks = input.number(4);
-    input.bytes(marks + LAYOUT_STATE + RENDER_STATE);
+    input.bytes(marks + LAYOUT_STATE);
+    skip_render_state(input);
     cells
+}
+
+/// Steps over a rendering state: its numbers, then the rows it lists.
+fn skip_render_state(input: &mut Input) {
+    input.bytes(RENDER_STATE);
+    let count = input.number(4);
+    input.bytes(4 * count.min(256));
 }
 
 const LAYOUT_STATE: usize = 2 + 7 * 4;
@@ -164,10 +172,16 @@ fn call_answers_are_laid_out_as_described() {
             generate::call_case,
             generate::foot_case,
             generate::rule_case,
+            generate::allotment_list,
         ]
         .map(|make| make(3, index))
     });
-    let fixed = [generate::rendering_cases(), generate::rule_cases()];
+    let fixed = [
+        generate::rendering_cases(),
+        generate::rule_cases(),
+        generate::allotment_cases(),
+    ];
+    let mut all_entered = 0;
     for case in random.chain(fixed.into_iter().flatten()) {
         let answered = answers::calls::answered(&case);
         let mut input = Input(&answered);
@@ -179,16 +193,19 @@ fn call_answers_are_laid_out_as_described() {
         assert_eq!(cells, case.world.store.len());
         let calls = input.number(2);
         assert_eq!(calls, case.calls.len());
-        let mut written = 0;
+        let [mut written, mut entered] = [0; 2];
         for one in &case.calls {
             let kind = input.number(1);
             let due = match one {
                 Call::Layout(args) if args.archive => 2,
                 Call::Layout(_) => 0,
-                Call::Render { .. } => 1,
+                Call::Render(_) => 1,
             };
             assert_eq!(kind, due);
             input.bytes(ARGUMENTS);
+            if kind == 1 {
+                assert_eq!(input.number(8), allotment(one));
+            }
             let refusal = input.number(1);
             input.bytes(8);
             match (refusal, kind) {
@@ -196,8 +213,9 @@ fn call_answers_are_laid_out_as_described() {
                     input.bytes(LAYOUT_STATE + 4);
                 }
                 (0, _) => {
-                    input.bytes(RENDER_STATE);
+                    skip_render_state(&mut input);
                     written += input.number(4);
+                    entered += input.number(4);
                 }
                 _ => {}
             }
@@ -205,6 +223,15 @@ fn call_answers_are_laid_out_as_described() {
         assert_eq!(skip_world(&mut input), cells);
         assert_eq!(input.number(4), written);
         assert_eq!(input.0.len(), written);
+        all_entered += entered;
+    }
+    assert!(all_entered > 1_000, "{all_entered}");
+}
+
+fn allotment(call: &Call) -> usize {
+    match call {
+        Call::Layout(_) => 0,
+        Call::Render(args) => args.allotment,
     }
 }
 

@@ -1,11 +1,12 @@
 //! Calls, their refusals, and the cut rule on the original itself.
 
 use judge::{
+    allotment::ALL_ROWS,
     calls::{
-        self, Answer, Call, Given, LayoutArgs, LayoutState, RenderState,
-        World,
+        self, Answer, Call, Given, LayoutArgs, LayoutState, RenderArgs,
+        RenderState, World,
     },
-    driver::{Page, Pen, Texts, render_rows},
+    driver::{Page, Pen, Start, Texts, render_rows},
     examples,
     frame::{self, Frame},
     generate::{self, CallCase, Class},
@@ -57,12 +58,13 @@ fn render(stop: usize) -> Call {
 }
 
 fn render_at(width: usize, stop: usize) -> Call {
-    Call::Render {
+    Call::Render(RenderArgs {
         stop,
         room: 1_000,
         width,
         rule: SUPPLIED,
-    }
+        allotment: ALL_ROWS,
+    })
 }
 
 /// Number and place of each refusal, or `None`.
@@ -111,12 +113,13 @@ fn refused_calls_leave_all_as_it_was() {
     let refused = [None, Some((12, 0)), Some((8, 21))];
     assert_eq!(refusals(&mut world_, &calls), refused);
     let before = world_.clone();
-    let short = Call::Render {
+    let short = Call::Render(RenderArgs {
         stop: 9,
         room: 16,
         width: REFERENCE,
         rule: SUPPLIED,
-    };
+        allotment: ALL_ROWS,
+    });
     let calls = [render(20), render(21), short];
     let refused = [Some((9, 2)), Some((11, 0)), Some((10, 17))];
     assert_eq!(refusals(&mut world_, &calls), refused);
@@ -477,10 +480,9 @@ fn rows_render_as_the_nodes_they_came_from() {
             let rendered = render_rows(
                 texts,
                 &run.rows,
-                0,
-                Pen::default(),
-                &[],
+                Start::at(0, Pen::default()),
                 Page::REFERENCE,
+                ALL_ROWS,
             );
             assert_eq!(rendered.text, run.text.as_bytes());
             assert_eq!(rendered.marks, run.marks);

@@ -132,7 +132,7 @@ fn calls_have_wrong_parts_of_every_kind() {
             image: &case.image,
         };
         let mut world = case.world.clone();
-        if let [render @ calls::Call::Render { .. }] = case.calls[..] {
+        if let [render @ calls::Call::Render(_)] = case.calls[..] {
             let answer = calls::call(given, &mut world, render);
             if let Some(found) = call_fault(&case, answer) {
                 *counts.entry(found).or_insert(0) += 1;

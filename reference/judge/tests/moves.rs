@@ -4,7 +4,8 @@
 use std::collections::BTreeMap;
 
 use judge::{
-    calls::{self, Answer, Call, Given, LayoutArgs, World},
+    allotment::ALL_ROWS,
+    calls::{self, Answer, Call, Given, LayoutArgs, RenderArgs, World},
     choice::Choice,
     driver::Run,
     frame::{self, Frame},
@@ -319,12 +320,13 @@ fn answers(source: &[u8], image: &[u8], rule: usize) -> [Option<Refusal>; 3] {
         rule,
         archive: false,
     });
-    let rendering = Call::Render {
+    let rendering = Call::Render(RenderArgs {
         stop: 0,
         room: 0,
         width: REFERENCE,
         rule,
-    };
+        allotment: ALL_ROWS,
+    });
     let frame = Frame { source, image };
     let whole = program::format_as(frame, Widths::Supplied, choice);
     [whole.err(), call(layout), call(rendering)]

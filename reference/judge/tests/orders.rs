@@ -4,10 +4,10 @@
 use std::{collections::BTreeMap, ops::Range};
 
 use judge::{
+    allotment::ALL_ROWS,
     batch::batch,
-    calls::{self, Answer, Call, Given, LayoutArgs, World},
+    calls::{self, Answer, Call, Given, LayoutArgs, RenderArgs, World},
     choice::Choice,
-    driver::Page,
     figures::{self, Tallies},
     frame::{self, Frame},
     generate::{self, OrderWay},
@@ -129,11 +129,14 @@ fn entries() {
         source,
         image: &two,
     };
-    let page = Page {
+    let args = RenderArgs {
+        stop: 0,
+        room: 0,
         width: REFERENCE,
         rule: UNICODE_16_0,
+        allotment: ALL_ROWS,
     };
-    assert!(calls::render_call(given, &mut world, 0, 0, page).is_ok());
+    assert!(calls::render_call(given, &mut world, args).is_ok());
 }
 
 fn world() -> World {
@@ -288,7 +291,7 @@ fn has_both(calls: &[Call]) -> bool {
     let at = |entry| {
         calls.iter().any(|one| match one {
             Call::Layout(args) => args.archive == entry,
-            Call::Render { .. } => false,
+            Call::Render(_) => false,
         })
     };
     at(false) && at(true)

@@ -4,7 +4,7 @@ use std::collections::BTreeSet;
 
 use judge::{
     answers,
-    calls::{self, Answer, Call, Given, RenderState},
+    calls::{self, Answer, Call, Given, RenderArgs, RenderState},
     generate::{self, CallCase},
     refusal::Refusal,
     rows::{self, Row},
@@ -42,7 +42,7 @@ fn the_file_is_small() {
         .iter()
         .map(|case| answers::calls::answered(case).len())
         .sum();
-    assert!(size < 440_000, "{size}");
+    assert!(size < 480_000, "{size}");
 }
 
 #[test]
@@ -57,7 +57,7 @@ fn widths_are_refused_and_accepted() {
     let mut given = BTreeSet::new();
     for (case, answers) in answered() {
         let carried = case.world.rendering.width;
-        if let [Call::Render { width, .. }] = case.calls[..]
+        if let [Call::Render(RenderArgs { width, .. })] = case.calls[..]
             && let [answer] = answers[..]
         {
             let number = answer.err().map_or(0, |refusal| refusal.number);

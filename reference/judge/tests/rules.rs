@@ -3,12 +3,13 @@
 mod support;
 
 use judge::{
+    allotment::ALL_ROWS,
     calls::{
-        self, Answer, Call, Given, LayoutArgs, LayoutState, RenderState,
-        World,
+        self, Answer, Call, Given, LayoutArgs, LayoutState, RenderArgs,
+        RenderState, World,
     },
     choice::Choice,
-    driver::{Page, Pen, RenderedRows, Run, Texts, render_rows},
+    driver::{Page, Pen, RenderedRows, Run, Start, Texts, render_rows},
     frame::{self, Frame},
     generate::{self, Class},
     mode::{NEW, OLD},
@@ -250,8 +251,9 @@ fn a_rule_turns_ascii_into_str() {
                     row.kind = rows::STR;
                 }
             }
-            let pen = Pen::default();
-            let by = |rows, page| render_rows(texts, rows, 0, pen, &[], page);
+            let start = Start::at(0, Pen::default());
+            let by =
+                |rows, page| render_rows(texts, rows, start, page, ALL_ROWS);
             for rendered in
                 [by(&run.rows, page(rule)), by(&turned, page(SUPPLIED))]
             {
@@ -356,12 +358,13 @@ fn calls_give_what_whole_files_do() {
                         rule,
                         archive: false,
                     }),
-                    Call::Render {
+                    Call::Render(RenderArgs {
                         stop: run.rows.len(),
                         room: run.text.len(),
                         width: REFERENCE,
                         rule,
-                    },
+                        allotment: ALL_ROWS,
+                    }),
                 ];
                 let given = Given { source, image };
                 let answers = calls::run(given, &mut world, &calls);
@@ -455,12 +458,13 @@ fn layout(rule: usize, stop: usize) -> Call {
 }
 
 fn render(rule: usize, stop: usize) -> Call {
-    Call::Render {
+    Call::Render(RenderArgs {
         stop,
         room: 100,
         width: REFERENCE,
         rule,
-    }
+        allotment: ALL_ROWS,
+    })
 }
 
 #[test]
@@ -543,11 +547,14 @@ fn a_rule_is_tested_among_12() {
         rule: UNICODE_16_0,
         ..RenderState::default()
     };
-    let narrow = |rule, stop| Call::Render {
-        stop,
-        room: 100,
-        width: 39,
-        rule,
+    let narrow = |rule, stop| {
+        Call::Render(RenderArgs {
+            stop,
+            room: 100,
+            width: 39,
+            rule,
+            allotment: ALL_ROWS,
+        })
     };
     let calls = [narrow(UNICODE_15_1, 1), narrow(UNICODE_15_1, 0)];
     let due = [Some((11, 0)), Some((12, 0))];
@@ -723,12 +730,13 @@ fn rows_of_layout_have_whole_texts() {
                 marks: vec![0; run.marks.len()],
                 ..World::default()
             };
-            let call = Call::Render {
+            let call = Call::Render(RenderArgs {
                 stop: run.rows.len(),
                 room: 1 << 20,
                 width: REFERENCE,
                 rule,
-            };
+                allotment: ALL_ROWS,
+            });
             let given = Given { source, image };
             assert!(calls::call(given, &mut world, call).is_ok());
         }

@@ -105,8 +105,14 @@ impl<const N: usize> Out<N> {
     /// What follows the 0 of an accepted call, or the refusal. Past the answer
     /// all must be as it was.
     fn accepted<const A: usize>(&self) -> Result<[u64; A], Refusal> {
+        let answer = self.accepted_of(A)?;
+        Ok(*answer.first_chunk().expect("long enough"))
+    }
+
+    /// The same, where so many numbers follow the 0.
+    fn accepted_of(&self, count: usize) -> Result<&[u64], Refusal> {
         let out = &self.0[..];
-        let answered = if out[0] == 0 { 1 + A } else { 2 };
+        let answered = if out[0] == 0 { 1 + count } else { 2 };
         let strange = Refusal {
             number: ILL_FORMED,
             place: out[0],
@@ -118,8 +124,8 @@ impl<const N: usize> Out<N> {
             return Err(strange);
         }
         match out {
-            [0, rest @ ..] => Ok(*rest.first_chunk().expect("long enough")),
-            [number @ 1..=21, place, ..] => Err(Refusal {
+            [0, rest @ ..] => Ok(rest),
+            [number @ 1..=23, place, ..] => Err(Refusal {
                 number: *number as u8,
                 place: *place,
             }),

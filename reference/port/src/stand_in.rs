@@ -1,6 +1,7 @@
 //! The judge in the port's place, with faults to plant: shows that the
 //! comparison runs and finds them.
 
+mod allotments;
 mod batch;
 mod moves;
 mod orders;
@@ -13,14 +14,16 @@ use std::sync::atomic::{AtomicU8, Ordering};
 
 pub use batch::batch;
 use judge::{
+    allotment::ALL_ROWS,
     calls::{
-        Answer, Given, LayoutArgs, LayoutState, RenderState, World,
-        layout_call,
+        Answer, Given, LayoutArgs, LayoutState, RenderArgs, RenderState,
+        World, layout_call,
     },
-    driver::{Page, Pen, Stop},
+    driver::{Pen, Stop},
     figures::{self, Counted, Figures, Fraction, MOST_FILES, Tallies},
     frame::Frame,
     image::{self, node},
+    listed::Listed,
     mode::{self, NEW, OLD},
     newlines,
     program::{MARKS, ROWS},
@@ -400,10 +403,56 @@ pub enum Fault {
     VerdictOfOne,
     /// The verdict is by the earlier rule for comments.
     VerdictEarlier,
+    /// Rows done by a stop stay listed.
+    StopUnclosed,
+    /// Rows of an unchosen part are counted.
+    UnchosenCounted,
+    /// The groups that `Call`s make up are.
+    MadeUpCounted,
+    /// A listed `IfWrap` chose its first part where the second's row is next.
+    EarlyAtSecond,
+    /// The last listed row isn't compared.
+    LastListed,
+    /// Closing takes the steps of an `IndentNext` from `indent`.
+    ClosedFromIndent,
+    /// 9 and 11 read from the next row.
+    ReadsFromNext,
+    /// Marks in use rise over the rows entered alone.
+    MarksOfEntered,
+    /// 23 comes before 22.
+    ListedFirst,
+    /// 22 comes before 15.
+    AllotmentBeforeWidth,
+    /// 9 comes before 23.
+    MarksBeforeListed,
+    /// An allotment of 0 enters nothing.
+    NoAllotment,
+    /// An allotment is looked at in its lower four bytes.
+    AllotmentInFourBytes,
+    /// A row more than is allotted is entered.
+    OneMoreRow,
+    /// A `Call` in one line is listed as one whose arguments trail.
+    TwoWays,
+    /// A listed row's own wrap is listed.
+    WrapsOfRow,
+    /// Another wrap than that of a stop isn't believed.
+    WrapsTested,
+    /// The number of a listed row is looked at in its lower four bytes.
+    FarRowWraps,
+    /// A count over 256 is looked at in its lowest byte.
+    ManyListed,
+    /// A next row inside another is refused where nothing is listed.
+    NoListedRefused,
+    /// The bounds of `indent` and `next_indent` are 64.
+    OldBounds,
+    /// A number behind the listed rows is written.
+    PastListed,
+    /// The rows entered are counted from the first.
+    EnteredOfAll,
 }
 
 impl Fault {
-    pub const ALL: [Fault; 179] = [
+    pub const ALL: [Fault; 202] = [
         Fault::CheckPlace,
         Fault::Declarations,
         Fault::CommentsLeft,
@@ -583,8 +632,34 @@ impl Fault {
         Fault::RefusedVerdict,
         Fault::VerdictOfOne,
         Fault::VerdictEarlier,
+        Fault::StopUnclosed,
+        Fault::UnchosenCounted,
+        Fault::MadeUpCounted,
+        Fault::EarlyAtSecond,
+        Fault::LastListed,
+        Fault::ClosedFromIndent,
+        Fault::ReadsFromNext,
+        Fault::MarksOfEntered,
+        Fault::ListedFirst,
+        Fault::AllotmentBeforeWidth,
+        Fault::MarksBeforeListed,
+        Fault::NoAllotment,
+        Fault::AllotmentInFourBytes,
+        Fault::OneMoreRow,
+        Fault::TwoWays,
+        Fault::WrapsOfRow,
+        Fault::WrapsTested,
+        Fault::FarRowWraps,
+        Fault::ManyListed,
+        Fault::NoListedRefused,
+        Fault::OldBounds,
+        Fault::PastListed,
+        Fault::EnteredOfAll,
     ];
 }
+
+/// 12's bound on `indent`.
+const MOST_INDENT: usize = 384;
 
 static PLANTED: AtomicU8 = AtomicU8::new(0);
 
@@ -629,7 +704,12 @@ fn layout_state(state: &[u64; 9]) -> LayoutState {
     }
 }
 
-fn render_state(state: &[u64; 7]) -> RenderState {
+/// Numbers of a rendering state before those of the rows that it lists.
+const STATE_NUMBERS: usize = 8;
+
+fn render_state(state: &[u64; 264]) -> RenderState {
+    let (own, listed) = state.split_at(STATE_NUMBERS);
+    let own: &[u64; STATE_NUMBERS] = own.try_into().expect("eight");
     let [
         indent,
         next_indent,
@@ -638,7 +718,8 @@ fn render_state(state: &[u64; 7]) -> RenderState {
         next_row,
         width,
         rule,
-    ] = state.map(|number| number as usize);
+        count,
+    ] = own.map(|number| number as usize);
     RenderState {
         pen: Pen {
             indent,
@@ -649,6 +730,7 @@ fn render_state(state: &[u64; 7]) -> RenderState {
         next_row,
         width,
         rule,
+        listed: Listed::of_numbers(count, listed),
     }
 }
 
@@ -914,9 +996,9 @@ pub fn render(
     store: &mut [u32],
     marks: &mut [u8],
     output: &mut [u8],
-    state: &[u64; 7],
-    args: &[u64; 3],
-    out: &mut [u64; 9],
+    state: &[u64; 264],
+    args: &[u64; 4],
+    out: &mut [u64; 267],
 ) {
     let mut world = World {
         store: store.to_vec(),
@@ -926,17 +1008,22 @@ pub fn render(
     };
     let before = world.rendering;
     let given = Given { source, image };
-    let [stop, width, rule] = args.map(|number| number as usize);
-    let page = Page {
+    let [stop, width, rule, allotment] = args.map(|number| number as usize);
+    let args = RenderArgs {
+        stop,
+        room: output.len(),
         width: spoil_width(&mut world.rendering, width),
         rule,
+        allotment,
     };
-    let answer = rules::render(given, &mut world, stop, output.len(), page);
+    let answer = allotments::render(given, &mut world, args);
     if planted(Fault::RowsTurned) {
         store.copy_from_slice(&world.store);
     }
     match answer {
-        Ok(Answer::Written { mut state, .. }) => {
+        Ok(Answer::Written {
+            mut state, entered, ..
+        }) => {
             state.width = width;
             spoil_marks(&mut world, state.marks_in_use);
             marks.copy_from_slice(&world.marks);
@@ -944,7 +1031,7 @@ pub fn render(
             let bytes = text.len();
             output[..bytes].copy_from_slice(&text);
             spoil_text(output, bytes);
-            put_written(out, &state, bytes);
+            put_written(out, &state, bytes, entered);
         }
         Err(mut refusal) => {
             spoil_rendering(marks, &before, width, &mut refusal);
@@ -976,7 +1063,9 @@ fn spoil_rendering(
     if refusal.number == 11 && planted(Fault::FaultyRow) {
         refusal.place += 1;
     }
-    if refusal.number == 11 && planted(Fault::Order) && before.pen.indent > 64
+    if refusal.number == 11
+        && planted(Fault::Order)
+        && before.pen.indent > MOST_INDENT
     {
         *refusal = Refusal {
             number: 12,
@@ -1017,11 +1106,17 @@ fn spoil_text(output: &mut [u8], bytes: usize) {
     }
 }
 
-fn put_written(out: &mut [u64], state: &RenderState, bytes: usize) {
+fn put_written(
+    out: &mut [u64],
+    state: &RenderState,
+    bytes: usize,
+    entered: usize,
+) {
     let shift = planted(Fault::Column) && state.pen.column > 60;
     let numbers = [
         0,
         bytes,
+        entered,
         state.pen.indent,
         state.pen.next_indent,
         state.pen.column + usize::from(shift),
@@ -1033,8 +1128,14 @@ fn put_written(out: &mut [u64], state: &RenderState, bytes: usize) {
         } else {
             state.rule
         },
+        state.listed.count,
     ];
     put(out, &numbers.map(|number| number as u64));
+    let behind = &mut out[numbers.len()..];
+    put(behind, state.listed.numbers());
+    if planted(Fault::PastListed) {
+        put(&mut behind[state.listed.count..], &[0]);
+    }
 }
 
 /// The whole run on rows and marks of its own.
@@ -1081,9 +1182,9 @@ pub fn format(
         return put(out, &laid[..2]);
     }
     let [rows, numbers] = [laid[5], laid[6]];
-    let mut shown = [0; 9];
-    let (fresh, marks) = ([0; 7], &mut marks);
-    let args = [rows, width, rule];
+    let mut shown = [0; 267];
+    let (fresh, marks) = ([0; 264], &mut marks);
+    let args = [rows, width, rule, ALL_ROWS as u64];
     render(
         source, image, store, marks, output, &fresh, &args, &mut shown,
     );

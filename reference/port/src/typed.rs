@@ -1,13 +1,16 @@
 //! Layout, rendering and the whole run, in the judge's types.
 
 use judge::{
-    calls::{Answer, Given, LayoutArgs, LayoutState, RenderState},
+    calls::{
+        Answer, Given, LayoutArgs, LayoutState, RenderArgs, RenderState,
+    },
     choice::Choice,
-    driver::{Page, Pen, Stop},
+    driver::{Pen, Stop},
+    listed::{Listed, MOST_LISTED},
     refusal::Refusal,
 };
 
-use crate::{Out, port};
+use crate::{Out, UNTOUCHED, port};
 
 /// What the whole run says of an accepted file.
 #[derive(Clone, Copy, Debug, PartialEq, Eq)]
@@ -79,39 +82,77 @@ pub fn layout(
     })
 }
 
-/// A rendering call of the port.
+/// The numbers of a rendering state before those of the rows that it lists,
+/// their count among them.
+const STATE_NUMBERS: usize = 8;
+/// Bytes written and rows entered.
+const WRITTEN_NUMBERS: usize = 2;
+/// A refusal's 0, then the answer.
+pub(crate) const RENDER_OUT: usize = 1 + WRITTEN_NUMBERS + RENDER_STATE;
+/// Places of a rendering state.
+pub(crate) const RENDER_STATE: usize = STATE_NUMBERS + MOST_LISTED;
+
+/// A rendering call of the port; the room is that of the output.
 pub fn render(
     given: Given,
     store: &mut [u32],
     marks: &mut [u8],
     output: &mut [u8],
     state: &RenderState,
-    stop: usize,
-    page: Page,
+    args: RenderArgs,
 ) -> Result<Answer, Refusal> {
-    let mut out = Out::<10>::new();
-    let numbers = [
-        state.pen.indent,
-        state.pen.next_indent,
-        state.pen.column,
-        state.marks_in_use,
-        state.next_row,
-        state.width,
-        state.rule,
-    ]
-    .map(|number| number as u64);
+    let mut out = Out::<{ RENDER_OUT + 1 }>::new();
+    let RenderArgs {
+        stop,
+        width,
+        rule,
+        allotment,
+        ..
+    } = args;
     port::render(
         given.source,
         given.image,
         store,
         marks,
         output,
-        &numbers,
-        &[stop, page.width, page.rule].map(|number| number as u64),
+        &render_numbers(state),
+        &[stop, width, rule, allotment].map(|number| number as u64),
         out.places(),
     );
+    written(&out)
+}
+
+/// A rendering state for the port: what stands behind the listed rows is
+/// nothing that it reads.
+pub fn render_numbers(state: &RenderState) -> [u64; RENDER_STATE] {
+    let RenderState { pen, listed, .. } = state;
+    let mut numbers = [UNTOUCHED; RENDER_STATE];
+    let own = [
+        pen.indent,
+        pen.next_indent,
+        pen.column,
+        state.marks_in_use,
+        state.next_row,
+        state.width,
+        state.rule,
+        listed.count,
+    ];
+    numbers[..STATE_NUMBERS].copy_from_slice(&own.map(|own| own as u64));
+    let rows = listed.numbers();
+    numbers[STATE_NUMBERS..][..rows.len()].copy_from_slice(rows);
+    numbers
+}
+
+/// The answer to a rendering call.
+fn written<const N: usize>(out: &Out<N>) -> Result<Answer, Refusal> {
+    let listed = WRITTEN_NUMBERS + STATE_NUMBERS;
+    let count = (out.0[listed] as usize).min(MOST_LISTED);
+    let answer = out.accepted_of(listed + count)?;
+    let numbers: &[u64; WRITTEN_NUMBERS + STATE_NUMBERS] =
+        answer.first_chunk().expect("long enough");
     let [
         bytes,
+        entered,
         indent,
         next_indent,
         column,
@@ -119,7 +160,8 @@ pub fn render(
         next_row,
         width,
         rule,
-    ] = out.accepted::<8>()?.map(|number| number as usize);
+        count,
+    ] = numbers.map(|number| number as usize);
     Ok(Answer::Written {
         state: RenderState {
             pen: Pen {
@@ -131,8 +173,10 @@ pub fn render(
             next_row,
             width,
             rule,
+            listed: Listed::of_numbers(count, &answer[listed..]),
         },
         bytes,
+        entered,
     })
 }
 

@@ -39,6 +39,7 @@ fn each_planted_fault_is_found() {
     let tally = PLAN.run();
     assert_eq!(tally.differences, 0, "{}", tally.report());
     texts_of_each_sort_are_tried(&tally);
+    margins_are_tried(&tally);
     for fault in [Fault::CommentLost, Fault::WordsSwapped] {
         plant(fault);
         let tally = PLAN.run();
@@ -93,7 +94,35 @@ fn items(fault: Fault) -> Vec<Item> {
     if fault as u8 >= Fault::SidesExchanged as u8 {
         items.sort_by_key(|item| !is_of_trees(item));
     }
+    if fault as u8 >= Fault::StopUnclosed as u8 {
+        items.sort_by_key(from_allotments);
+    } else {
+        // What other faults there are shows elsewhere, and sooner.
+        items.retain(|item| !is_of_allotments(item));
+    }
     items
+}
+
+/// What is compared for allotments alone.
+fn is_of_allotments(item: &Item) -> bool {
+    matches!(
+        item,
+        Item::FixedAllotment(_)
+            | Item::Handed(_)
+            | Item::AllotmentList(_)
+            | Item::Allotted(_)
+    )
+}
+
+/// What tries allotments, what takes longest last.
+fn from_allotments(item: &Item) -> u8 {
+    match item {
+        Item::FixedAllotment(_) => 0,
+        Item::Handed(_) | Item::AllotmentList(_) => 1,
+        Item::Stretched(_) => 2,
+        Item::Allotted(_) => 3,
+        _ => 4,
+    }
 }
 
 /// What is asked whether it is read back.
@@ -131,6 +160,17 @@ fn texts_of_each_sort_are_tried(tally: &Tally) {
         let [tried, faulty] = tally.texts_of(sort);
         assert!(tried > 0 && faulty == 0, "{sort}, {}", tally.report());
     }
+}
+
+/// Request 13's sentence is tried on every frame with a width, every document
+/// and every list with allotments.
+fn margins_are_tried(tally: &Tally) {
+    let report = tally.report();
+    for kind in ["widths", "allotted", "allotment-list", "handed"] {
+        let line = format!("13's sentence, {kind}: tried on ");
+        assert!(report.contains(&line), "{report}");
+    }
+    assert!(tally.margins_tried() > 100_000, "{report}");
 }
 
 /// By what each text says, the other side aside: all of the port's are wrong,
@@ -206,6 +246,17 @@ fn verdicts_are_repeated_by_their_names() {
         Item::from_words("any-verdict", 4),
         Some(Item::AnyVerdict(4))
     );
+    assert_eq!(Item::from_words("allotted", 1), Some(Item::Allotted(1)));
+    assert_eq!(
+        Item::from_words("allotment-list", 2),
+        Some(Item::AllotmentList(2))
+    );
+    assert_eq!(Item::from_words("handed", 3), Some(Item::Handed(3)));
+    assert_eq!(
+        Item::from_words("fixed-allotment", 4),
+        Some(Item::FixedAllotment(4))
+    );
+    assert_eq!(Item::from_words("other", 4), None);
 }
 
 /// Reading the texts is part of making the inputs.

@@ -23,7 +23,7 @@ render_checked-requires c =
     drawn_starts _ _ _ _ _ c.args.out.now
     (choice_passes _ _ (to_choice c.args.choice) c.requires.rule c.requires.read c.if-choice-gt-NEW_MODE.false _ c.width_fits.ensures fits)
     _ _ _ _ (fresh_by c.default.ensures) (ap (closing_at _) c.count_declarations.ensures) c.layout_accepted.ensures
-    _ c.in_ok-laid.was _ c.render_fresh.ensures
+    _ c.in_ok-laid.was _ _ (c.render_fresh.ensures _)
 
 pub returns-in_err-laid : goal.returns-in_err-laid
 returns-in_err-laid c =
@@ -43,7 +43,7 @@ returns-in_err-drawn c =
     (drawn_refused _ _ _ _ _ _
     (choice_passes _ _ (to_choice c.args.choice) c.requires.rule c.requires.read c.if-choice-gt-NEW_MODE.false _ c.width_fits.ensures fits)
     _ _ _ _ (fresh_by c.default.ensures) (ap (closing_at _) c.count_declarations.ensures) c.layout_accepted.ensures
-    _ c.in_ok-laid.was _ c.render_fresh.ensures _ _ _ _ c.render_checked.ensures _ c.in_err-drawn.was)
+    _ c.in_ok-laid.was _ _ (c.render_fresh.ensures _) _ _ _ _ _ c.render_checked.ensures _ c.in_err-drawn.was)
 
 pub returns : goal.returns
 returns c =
@@ -51,4 +51,4 @@ returns c =
     drawn_formats _ _ _ _ _ _
     (choice_passes _ _ (to_choice c.args.choice) c.requires.rule c.requires.read c.if-choice-gt-NEW_MODE.false _ c.width_fits.ensures fits)
     _ _ _ _ (fresh_by c.default.ensures) (ap (closing_at _) c.count_declarations.ensures) c.layout_accepted.ensures
-    _ c.in_ok-laid.was _ c.render_fresh.ensures _ _ _ _ c.render_checked.ensures _ c.in_ok-drawn.was
+    _ c.in_ok-laid.was _ _ (c.render_fresh.ensures _) _ _ _ _ _ c.render_checked.ensures _ c.in_ok-drawn.was

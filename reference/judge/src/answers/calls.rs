@@ -3,8 +3,8 @@
 use super::{put_bytes, put_long, put_number};
 use crate::{
     calls::{
-        self, Answer, Call, Given, LayoutArgs, LayoutState, RenderState,
-        World,
+        self, Answer, Call, Given, LayoutArgs, LayoutState, RenderArgs,
+        RenderState, World,
     },
     driver::Stop,
     generate::CallCase,
@@ -61,17 +61,19 @@ fn put_call(out: &mut Vec<u8>, call: &Call) {
             put_number(out, mode);
             put_long(out, rule);
         }
-        Call::Render {
+        Call::Render(RenderArgs {
             stop,
             room,
             width,
             rule,
-        } => {
+            allotment,
+        }) => {
             out.push(RENDERING);
             put_number(out, stop);
             put_number(out, room);
             put_number(out, width);
             put_long(out, rule);
+            put_long(out, allotment);
         }
     }
 }
@@ -89,9 +91,14 @@ fn put_answer(out: &mut Vec<u8>, answer: Result<Answer, Refusal>) {
             put_layout_state(out, &state);
             put_number(out, comments_left);
         }
-        Ok(Answer::Written { state, bytes }) => {
+        Ok(Answer::Written {
+            state,
+            bytes,
+            entered,
+        }) => {
             put_render_state(out, &state);
             put_number(out, bytes);
+            put_number(out, entered);
         }
         Err(_) => {}
     }
@@ -123,4 +130,8 @@ fn put_render_state(out: &mut Vec<u8>, state: &RenderState) {
     put_number(out, state.next_row);
     put_number(out, state.width);
     put_number(out, state.rule);
+    put_number(out, state.listed.count);
+    for number in state.listed.numbers() {
+        put_number(out, *number as usize);
+    }
 }

@@ -19,11 +19,13 @@ use crate::{
 /// How often each refusal number was given, 0 for an accepted one.
 type Numbers = BTreeMap<u8, usize>;
 
-/// The stored lists, and behind them those that try rendering, and rules.
+/// The stored lists, and behind them those that try rendering, rules, and
+/// allotments.
 pub fn lists() -> impl Iterator<Item = CallCase> {
     stored::lists()
         .chain(generate::rendering_cases())
         .chain(generate::rule_cases())
+        .chain(generate::allotment_cases())
 }
 
 /// The lists with their answers.
@@ -189,7 +191,7 @@ impl Calls {
             let numbers = match call {
                 Call::Layout(args) if args.archive => &mut self.archived,
                 Call::Layout(_) => &mut self.laid,
-                Call::Render { .. } => &mut self.rendered,
+                Call::Render(_) => &mut self.rendered,
             };
             let number = answer.err().map_or(0, |refusal| refusal.number);
             *numbers.entry(number).or_default() += 1;

@@ -7,6 +7,7 @@ use super::{batches, calls, moves, verdicts as trees};
 use crate::{
     examples, frame,
     generate::{self, BatchCase, CallCase, Class, MoveCase, OperatorCase},
+    listed::{Listed, MOST_LISTED},
     moves::{Way, moved},
     reader,
     reads_back::operands,
@@ -33,8 +34,8 @@ pub const FRAMES: [(Class, u64, u64, usize); 8] = [
 /// list with its answers that is kept.
 type Lists = (fn(u64, u64) -> CallCase, u64, u64, usize);
 
-pub const LISTS: [Lists; 8] = [
-    (generate::call_case, 1, 900, 4_000),
+pub const LISTS: [Lists; 10] = [
+    (generate::call_case, 1, 660, 4_000),
     (generate::cut_case, 1, 150, 10_000),
     (generate::foot_case, 1, 180, 2_200),
     (generate::unreadable_case, 1, 120, 4_000),
@@ -43,7 +44,20 @@ pub const LISTS: [Lists; 8] = [
     (generate::rule_case, 1, 120, 2_000),
     (generate::two_case, 1, 300, 2_000),
     (generate::order_list, 1, 50, 2_800),
+    (generate::allotment_list, 1, 60, 3_000),
+    (handed, 1, 40, 2_500),
 ];
+
+/// A state handed in. Its listed rows and their count have four bytes here.
+fn handed(seed: u64, index: u64) -> CallCase {
+    let (_, mut case) = generate::handed_case(seed, index);
+    let listed = &mut case.world.rendering.listed;
+    let least = |number: &u64| (*number).min(u32::MAX.into());
+    let numbers: Vec<u64> = listed.numbers().iter().map(least).collect();
+    let count = listed.count.min(MOST_LISTED + 1);
+    *listed = Listed::of_numbers(count, &numbers);
+    case
+}
 
 /// A seed under which the first source is one byte too long.
 const LONG: u64 = 121;

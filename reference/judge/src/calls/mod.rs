@@ -10,9 +10,9 @@ mod row_check;
 
 pub use layout::{LayoutArgs, LayoutState, layout_call};
 pub use plain::{plain_run, reads_laid_rows_alone};
-pub use render::{RenderState, render_call};
+pub use render::{RenderArgs, RenderState, render_call};
 
-use crate::{driver::Page, refusal::Refusal, rows::Row};
+use crate::{refusal::Refusal, rows::Row};
 
 pub const MOST_ROWS: usize = 2_097_152;
 pub const MOST_ROW_DEPTH: usize = 256;
@@ -21,16 +21,12 @@ pub const MOST_ROW_DEPTH: usize = 256;
 #[derive(Clone, Copy, Debug, PartialEq, Eq)]
 pub enum Call {
     Layout(LayoutArgs),
-    /// The row to stop before, the bytes of output, the width and the rule.
-    Render {
-        stop: usize,
-        room: usize,
-        width: usize,
-        rule: usize,
-    },
+    Render(RenderArgs),
 }
 
-/// What an accepted call answers.
+/// What an accepted call answers. A rendering state has places for all rows
+/// that it may list, so that it can be copied.
+#[allow(clippy::large_enum_variant)]
 #[derive(Clone, Copy, Debug, PartialEq, Eq)]
 pub enum Answer {
     LaidOut {
@@ -40,6 +36,7 @@ pub enum Answer {
     Written {
         state: RenderState,
         bytes: usize,
+        entered: usize,
     },
 }
 
@@ -91,15 +88,7 @@ pub fn call(
 ) -> Result<Answer, Refusal> {
     match call {
         Call::Layout(args) => layout_call(given, world, args),
-        Call::Render {
-            stop,
-            room,
-            width,
-            rule,
-        } => {
-            let page = Page { width, rule };
-            render_call(given, world, stop, room, page)
-        }
+        Call::Render(args) => render_call(given, world, args),
     }
 }
 

@@ -1,15 +1,16 @@
 //! The plain run of document 01's demand 3: it keeps how far layout and
 //! rendering came, and nothing that a call answered.
 
-use super::{Answer, Call, Given, LayoutArgs, World, call};
-use crate::refusal::Refusal;
+use super::{Answer, Call, Given, LayoutArgs, RenderArgs, World, call};
+use crate::{allotment::ALL_ROWS, refusal::Refusal};
 
 /// How far both came, and what the accepted calls chose: the last accepted
-/// call of a kind, `None` before the first.
+/// layout call, `None` before the first, and one rendering call that goes to
+/// the furthest stop and enters as many of the rows before it as were entered.
 #[derive(Clone, Copy, Default)]
 struct Far {
     laid: Option<Call>,
-    shown: Option<Call>,
+    shown: Option<RenderArgs>,
 }
 
 /// The answers and what is due in the end, from fresh states.
@@ -24,8 +25,9 @@ pub fn plain_run(
 ) -> (Vec<Result<Answer, Refusal>>, World) {
     let mut far = Far::default();
     let mut answers = Vec::new();
+    let due = |far| due(given, store, marks, far);
     for one in calls {
-        let answer = call(given, &mut due(given, store, marks, far), *one);
+        let answer = call(given, &mut due(far), *one);
         if answer.is_ok() {
             match *one {
                 // What is due doesn't depend on the entry.
@@ -35,33 +37,68 @@ pub fn plain_run(
                         ..args
                     }));
                 }
-                Call::Render {
-                    stop, width, rule, ..
-                } => {
-                    // In one go there is more to write.
-                    far.shown = Some(Call::Render {
-                        stop,
-                        room: usize::MAX,
-                        width,
-                        rule,
-                    });
+                Call::Render(args) => {
+                    let laid = Far { shown: None, ..far };
+                    let total = total(given, due(laid), args);
+                    far.shown = Some(further(far.shown, args, total));
                 }
             }
         }
         answers.push(answer);
     }
-    (answers, due(given, store, marks, far))
+    (answers, due(far))
+}
+
+/// The plain run's one go behind an accepted call: to the furthest stop, and
+/// with the rows that the call entered, its allotment or, if fewer, the rows
+/// still to be entered of so many before its own stop.
+fn further(
+    shown: Option<RenderArgs>,
+    args: RenderArgs,
+    total: usize,
+) -> RenderArgs {
+    let (stop, entered) =
+        shown.map_or((0, 0), |shown| (shown.stop, shown.allotment));
+    RenderArgs {
+        stop: stop.max(args.stop),
+        // In one go there is more to write.
+        room: usize::MAX,
+        allotment: entered
+            + args.allotment.min(total.saturating_sub(entered)),
+        ..args
+    }
+}
+
+/// The rows that a whole rendering enters up to a call's stop, where what is
+/// due is laid out and nothing rendered.
+fn total(given: Given, mut laid: World, args: RenderArgs) -> usize {
+    let whole = RenderArgs {
+        room: usize::MAX,
+        allotment: ALL_ROWS,
+        ..args
+    };
+    match call(given, &mut laid, Call::Render(whole)) {
+        Ok(Answer::Written { entered, .. }) => entered,
+        other => panic!("the rows before it are whole: {other:?}"),
+    }
 }
 
 /// Rows and layout state in one go, then marks, text and rendering state of
-/// the rows before the other stop in one go.
+/// so many rows before the other stop in one go.
 fn due(given: Given, store: &[u32], marks: &[u8], far: Far) -> World {
     let mut world = World {
         store: store.to_vec(),
         marks: marks.to_vec(),
         ..World::default()
     };
-    for one in [far.laid, far.shown].into_iter().flatten() {
+    let shown = far.shown.map(|args| {
+        Call::Render(RenderArgs {
+            // Where no row was entered there is none, and 0 is refused.
+            allotment: args.allotment.max(1),
+            ..args
+        })
+    });
+    for one in [far.laid, shown].into_iter().flatten() {
         call(given, &mut world, one).expect("accepted before");
     }
     world
@@ -83,10 +120,10 @@ pub fn reads_laid_rows_alone(
     };
     calls.iter().all(|one| {
         let laid = world.laying.at.next_row;
-        let from = world.rendering.next_row;
+        let from = world.rendering.reads_from();
         let accepted = call(given, &mut world, *one).is_ok();
         match *one {
-            Call::Render { stop, .. } => {
+            Call::Render(RenderArgs { stop, .. }) => {
                 !accepted || stop <= laid || stop <= from
             }
             Call::Layout(_) => true,

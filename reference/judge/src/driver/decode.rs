@@ -1,11 +1,15 @@
-//! Renders rows: turns them back into nodes for the real `Renderer`.
+//! Renders rows: turns them back into nodes for the real `Renderer`, and by
+//! the second form row by row.
 
 use super::{
     super::{Node, Nodes},
     Page, Pen,
-    render::{Rendered, render},
+    noted::Noted,
+    resumed,
+    start::{Halt, Start},
 };
 use crate::{
+    listed::Listed,
     rows::{self, Row},
     rule,
 };
@@ -30,56 +34,126 @@ impl Texts<'_> {
     }
 }
 
-/// What a rendering writes, as bytes: a row may hold half a character.
-#[derive(Debug)]
+/// What a rendering writes, as bytes: a row may hold half a character; and
+/// where it stops.
+#[derive(Clone, Debug, PartialEq, Eq)]
 pub struct RenderedRows {
     pub text: Vec<u8>,
     pub marks: Vec<u8>,
     pub pen: Pen,
+    /// The greatest value that `column` was set to, 0 before the first.
     pub greatest_column: usize,
+    pub next_row: usize,
+    pub listed: Listed,
+    /// The rows entered.
+    pub entered: usize,
 }
 
-/// Renders the rows from `from` to the store's end, which must have passed
-/// the row check under the page's rule.
-///
-/// The real `Renderer` takes no text that isn't UTF-8. Where widths are
-/// supplied it never looks into a text either, so it is run twice, with a
-/// letter for each byte's high half and then its low half, and the halves are
-/// put together. Under the other rules the row check saw to it that each text
-/// is UTF-8.
+/// Renders as many rows as are allotted, up to the store's end, by the second
+/// form; where no row is listed by the original too, which must give the same.
+/// The rows must have passed the row check under the page's rule, and 23.
 pub fn render_rows(
     texts: Texts,
     rows: &[Row],
-    from: usize,
-    pen: Pen,
-    marks: &[u8],
+    start: Start,
     page: Page,
+    allotment: usize,
 ) -> RenderedRows {
-    if page.rule != rule::SUPPLIED {
-        let nodes = decode(&texts, rows, from, rows.len());
-        let rendered = render(&nodes, pen, marks.to_vec(), page);
-        let text = rendered.text.clone().into_bytes();
-        return RenderedRows::new(text, rendered);
+    let rendered = in_bytes(texts, page, |texts| {
+        resumed::render(texts, rows, start, page, allotment)
+    });
+    let rendered = RenderedRows::new(rows, start, rendered);
+    if cfg!(debug_assertions) && start.listed.is_empty() {
+        let original = in_bytes(texts, page, |texts| {
+            Noted::new(texts, rows, start, page).stop(allotment)
+        });
+        let original = RenderedRows::new(rows, start, original);
+        assert_eq!(original, rendered, "the two forms differ");
     }
-    let run = |half: fn(u8) -> u8| {
-        let shadow = Shadow::new(texts, half);
-        let nodes = decode(&shadow, rows, from, rows.len());
-        render(&nodes, pen, marks.to_vec(), page)
+    rendered
+}
+
+/// Where the original stands as it enters each row from a start, no row being
+/// listed, and in the end; read off one run.
+pub fn every_stop(
+    texts: Texts,
+    rows: &[Row],
+    start: Start,
+    page: Page,
+) -> Vec<RenderedRows> {
+    assert!(start.listed.is_empty(), "the original begins at a whole row");
+    let count = in_halves(texts, page, |texts| {
+        Noted::new(texts, rows, start, page).stops()
+    });
+    let stops = count.into_iter();
+    stops
+        .map(|halves| RenderedRows::new(rows, start, joined(halves)))
+        .collect()
+}
+
+/// A run of the real `Renderer`, on the texts as they are or on letters in
+/// their place.
+///
+/// It takes no text that isn't UTF-8. Where widths are supplied it never looks
+/// into a text either, so it is run twice, with a letter for each byte's high
+/// half and then its low half, and the halves are put together. Under the
+/// other rules the row check saw to it that each text is UTF-8.
+fn in_bytes(
+    texts: Texts,
+    page: Page,
+    run: impl Fn(&dyn Spelled) -> Halt,
+) -> (Vec<u8>, Halt) {
+    let one = |texts: &dyn Spelled| vec![run(texts)];
+    let mut halves = in_halves(texts, page, one);
+    joined(halves.pop().expect("one stop"))
+}
+
+/// Each stop of such a run, by either half or whole.
+fn in_halves(
+    texts: Texts,
+    page: Page,
+    run: impl Fn(&dyn Spelled) -> Vec<Halt>,
+) -> Vec<(Halt, Option<Halt>)> {
+    if page.rule != rule::SUPPLIED {
+        return run(&texts).into_iter().map(|one| (one, None)).collect();
+    }
+    let high = run(&Shadow::new(texts, |byte| byte >> 4));
+    let low = run(&Shadow::new(texts, |byte| byte & 15));
+    assert_eq!(high.len(), low.len());
+    high.into_iter().zip(low.into_iter().map(Some)).collect()
+}
+
+/// The text of a stop, and what else it is.
+fn joined((high, low): (Halt, Option<Halt>)) -> (Vec<u8>, Halt) {
+    let text = match &low {
+        None => high.text.clone().into_bytes(),
+        Some(low) => {
+            let pairs = high.text.bytes().zip(low.text.bytes());
+            pairs.map(|(high, low)| whole(high, low)).collect()
+        }
     };
-    let high = run(|byte| byte >> 4);
-    let low = run(|byte| byte & 15);
-    let pairs = high.text.bytes().zip(low.text.bytes());
-    let text = pairs.map(|(high, low)| whole(high, low)).collect();
-    RenderedRows::new(text, high)
+    (text, high)
 }
 
 impl RenderedRows {
-    fn new(text: Vec<u8>, rendered: Rendered) -> Self {
+    /// Marks grow to the largest number that the rows read hold, plus 1,
+    /// whether they are entered or not.
+    fn new(rows: &[Row], start: Start, (text, halt): (Vec<u8>, Halt)) -> Self {
+        let listed = start.listed.first().map(|open| open.row);
+        let from = listed.map_or(start.row, |row| row.min(start.row));
+        let needed = rows::marks_needed(&rows[from..]) as usize;
+        let mut marks = vec![0; needed.max(start.marks.len())];
+        for number in &halt.wrapped {
+            marks[*number] = 1;
+        }
         RenderedRows {
             text,
-            marks: rendered.marks,
-            pen: rendered.pen,
-            greatest_column: rendered.greatest_column,
+            marks,
+            pen: halt.pen,
+            greatest_column: halt.greatest,
+            next_row: halt.next_row,
+            listed: halt.listed,
+            entered: halt.entered,
         }
     }
 }
@@ -127,7 +201,7 @@ fn whole(high: u8, low: u8) -> u8 {
 }
 
 pub(super) fn decode<'t>(
-    texts: &'t impl Spelled,
+    texts: &'t (impl Spelled + ?Sized),
     rows: &[Row],
     from: usize,
     to: usize,
@@ -142,7 +216,7 @@ pub(super) fn decode<'t>(
 }
 
 fn node<'t>(
-    texts: &'t impl Spelled,
+    texts: &'t (impl Spelled + ?Sized),
     rows: &[Row],
     place: usize,
 ) -> Node<'t> {

@@ -4,7 +4,7 @@ use std::collections::HashSet;
 
 use super::{
     super::{Node, Renderer, fmt_parsed},
-    Layout, Stop, Texts,
+    Layout, Notes, Stop, Texts,
     decode::{Shadow, decode},
 };
 use crate::{mode, rows::Row, rule, tree::Input, width};
@@ -41,6 +41,7 @@ impl<'s> Held<'s> {
             buf: String::new(),
             indent: 0,
             next_indent: 0,
+            notes: Notes::default(),
             column: 0,
             greatest: 0,
             max: width::REFERENCE,

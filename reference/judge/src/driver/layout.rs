@@ -3,6 +3,7 @@
 use super::{
     super::{Node, Nodes, State, fmt_parsed},
     Run,
+    margin::drifts,
     render::{Page, Pen, Rendering, Shown},
     with_choice, with_rule,
 };
@@ -45,6 +46,11 @@ pub fn run_as(input: &Input, choice: Choice) -> Run {
     let closed = layout.stop();
     let page = Page { width, rule };
     let (shown, rendering) = rendered(&layout.nodes, &ends, page);
+    if cfg!(debug_assertions) {
+        let drifting = drifts(rendering.notes(), &layout.rows, 0);
+        assert_eq!(drifting, None, "the margin drifts at a row");
+    }
+    let entered = rendering.shown().entered;
     let rendered = rendering.finish();
     let original = with_choice(choice, || {
         fmt_parsed(&input.ast, &input.files, &input.spans, &input.extras)
@@ -63,6 +69,7 @@ pub fn run_as(input: &Input, choice: Choice) -> Run {
         text: rendered.text,
         marks: rendered.marks,
         pen: rendered.pen,
+        entered,
         greatest_column: rendered.greatest_column,
     }
 }
@@ -231,7 +238,7 @@ fn own_cells(input: &Input, node: &Node) -> Row {
     }
 }
 
-fn kind(node: &Node) -> u32 {
+pub(super) fn kind(node: &Node) -> u32 {
     match node {
         Node::Group(..) => rows::GROUP,
         Node::Indent(..) => rows::INDENT,

@@ -6,12 +6,22 @@
 mod decode;
 mod held;
 mod layout;
+mod margin;
+mod noted;
+mod notes;
 mod render;
+mod resumed;
+mod start;
 
-pub use decode::{RenderedRows, Texts, render_rows};
+pub use decode::{RenderedRows, Texts, every_stop, render_rows};
 pub use held::{Held, HeldTexts, format};
 pub use layout::{Layout, Stop, run, run_as};
+pub use margin::margins_tried;
+// The build for timing keeps no notes.
+#[cfg_attr(not(debug_assertions), expect(unused_imports))]
+pub(super) use notes::{Notes, enter, leave, trails};
 pub use render::{Page, Pen, Shown};
+pub use start::Start;
 
 use std::cell::Cell;
 
@@ -83,6 +93,8 @@ pub struct Run {
     pub marks: Vec<u8>,
     /// The rendering state at the end.
     pub pen: Pen,
+    /// The rows entered, 0 in the build for timing.
+    pub entered: usize,
     /// The greatest value that `column` was set to, 0 before the first. The
     /// build for timing doesn't keep it.
     pub greatest_column: usize,

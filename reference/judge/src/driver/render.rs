@@ -4,6 +4,7 @@ use std::collections::HashSet;
 
 use super::{
     super::{Node, Renderer},
+    notes::{Note, Notes},
     with_rule,
 };
 use crate::{rule, width};
@@ -47,21 +48,32 @@ pub struct Shown {
     pub pen: Pen,
     /// The bytes written so far.
     pub bytes: usize,
+    /// The rows entered so far, 0 in the build for timing.
+    pub entered: usize,
     /// The marks in use.
     pub marks: Vec<u8>,
 }
 
-/// Renders nodes as `fmt_parsed` does, from a given state and on a page.
-/// Marks grow to the largest number that the nodes hold, plus 1.
-pub(in super::super) fn render(
-    nodes: &[Node],
-    pen: Pen,
-    marks: Vec<u8>,
-    page: Page,
-) -> Rendered {
-    let mut rendering = Rendering::new(pen, &marks, page);
-    rendering.nodes(nodes);
-    rendering.finish()
+/// A `Renderer` that keeps notes.
+pub(super) fn renderer(pen: Pen, marks: &[u8], page: Page) -> Renderer {
+    Renderer {
+        buf: String::new(),
+        indent: pen.indent,
+        next_indent: pen.next_indent,
+        notes: Notes::kept(),
+        column: pen.column,
+        greatest: 0,
+        max: page.width,
+        wrapped: wrapped_numbers(marks),
+    }
+}
+
+pub(super) fn pen_of(renderer: &Renderer) -> Pen {
+    Pen {
+        indent: renderer.indent,
+        next_indent: renderer.next_indent,
+        column: renderer.column,
+    }
 }
 
 /// A `Renderer` under way, with its marks as bytes.
@@ -73,17 +85,8 @@ pub(super) struct Rendering {
 
 impl Rendering {
     pub(super) fn new(pen: Pen, marks: &[u8], page: Page) -> Self {
-        let renderer = Renderer {
-            buf: String::new(),
-            indent: pen.indent,
-            next_indent: pen.next_indent,
-            column: pen.column,
-            greatest: 0,
-            max: page.width,
-            wrapped: wrapped_numbers(marks),
-        };
         Rendering {
-            renderer,
+            renderer: renderer(pen, marks, page),
             rule: page.rule,
             marks_in_use: marks.len(),
         }
@@ -103,6 +106,7 @@ impl Rendering {
         Shown {
             pen: self.pen(),
             bytes: self.renderer.buf.len(),
+            entered: self.renderer.notes.rows(),
             marks: self.marks(),
         }
     }
@@ -116,12 +120,24 @@ impl Rendering {
         }
     }
 
-    fn pen(&self) -> Pen {
-        Pen {
-            indent: self.renderer.indent,
-            next_indent: self.renderer.next_indent,
-            column: self.renderer.column,
-        }
+    pub(super) fn pen(&self) -> Pen {
+        pen_of(&self.renderer)
+    }
+
+    pub(super) fn greatest(&self) -> usize {
+        self.renderer.greatest
+    }
+
+    /// None in the build for timing.
+    pub(super) fn notes(&self) -> &[Note] {
+        self.renderer.notes.all()
+    }
+
+    /// The numbers of the groups that wrapped, ascending.
+    pub(super) fn wrapped(&self) -> Vec<usize> {
+        let mut all: Vec<_> = self.renderer.wrapped.iter().copied().collect();
+        all.sort_unstable();
+        all
     }
 
     fn marks(&self) -> Vec<u8> {

@@ -5,10 +5,12 @@ use super::{
     widths, wild,
 };
 use crate::{
-    calls::{Call, LayoutArgs, LayoutState, RenderState, World},
+    allotment::ALL_ROWS,
+    calls::{Call, LayoutArgs, LayoutState, RenderArgs, RenderState, World},
     choice::Choice,
     driver::{Pen, Run, Stop},
     frame::{self, Frame},
+    listed::Listed,
     mode::OLD,
     program::{self, Widths},
     random::Random,
@@ -75,7 +77,11 @@ fn draft(random: &mut Random, width: usize) -> Draft {
 }
 
 /// The run of a draft, whose comments may be in any order.
-fn formatted(draft: &Draft, image: &[u8], choice: Choice) -> Option<Run> {
+pub(super) fn formatted(
+    draft: &Draft,
+    image: &[u8],
+    choice: Choice,
+) -> Option<Run> {
     let source = draft.source.as_bytes();
     let frame = Frame { source, image };
     let (widths, reading) = (Widths::Supplied, Reading::Earlier);
@@ -83,7 +89,7 @@ fn formatted(draft: &Draft, image: &[u8], choice: Choice) -> Option<Run> {
 }
 
 /// The width of a list: that of `fmt_parsed`, or any.
-fn width(random: &mut Random) -> usize {
+pub(super) fn width(random: &mut Random) -> usize {
     if random.once_in(2) {
         REFERENCE
     } else {
@@ -206,11 +212,14 @@ fn through(random: &mut Random, run: &Run, choice: Choice) -> Vec<Call> {
             archive: false,
         })
     };
-    let render = |stop, room| Call::Render {
-        stop,
-        room,
-        width,
-        rule,
+    let render = |stop, room| {
+        Call::Render(RenderArgs {
+            stop,
+            room,
+            width,
+            rule,
+            allotment: ALL_ROWS,
+        })
     };
     let last = run.stops.len() - 1;
     let mut calls = Vec::new();
@@ -252,11 +261,14 @@ fn refused_at(
             archive: false,
         })
     };
-    let render = |stop, room, width| Call::Render {
-        stop,
-        room,
-        width,
-        rule,
+    let render = |stop, room, width| {
+        Call::Render(RenderArgs {
+            stop,
+            room,
+            width,
+            rule,
+            allotment: ALL_ROWS,
+        })
     };
     let refused = match random.below(14) {
         0 => layout(last + 1, false, mode),
@@ -323,12 +335,13 @@ fn rendering(
         1 => run.text.len(),
         _ => 1 << 16,
     };
-    Call::Render {
+    Call::Render(RenderArgs {
         stop,
         room,
         width: widths::chosen(random, choice.width),
         rule: choice.rule,
-    }
+        allotment: ALL_ROWS,
+    })
 }
 
 /// A source or an image that the reader turns down.
@@ -355,12 +368,13 @@ pub(super) fn unreadable(random: &mut Random) -> CallCase {
                 rule: SUPPLIED,
                 archive: false,
             }),
-            Call::Render {
+            Call::Render(RenderArgs {
                 stop: 0,
                 room: 10,
                 width: widths::chosen(random, REFERENCE),
                 rule: SUPPLIED,
-            },
+                allotment: ALL_ROWS,
+            }),
         ],
     }
 }
@@ -473,12 +487,13 @@ pub(super) fn on_rows(
         source,
         image,
         world,
-        calls: vec![Call::Render {
+        calls: vec![Call::Render(RenderArgs {
             stop,
             room,
             width: widths::chosen(random, width),
             rule: SUPPLIED,
-        }],
+            allotment: ALL_ROWS,
+        })],
     }
 }
 
@@ -498,8 +513,8 @@ fn render_state(
     let column = (1 << 56) + past;
     RenderState {
         pen: Pen {
-            indent: *random.pick(&[0, 0, 1, 3, 20, 64, 64 + past]),
-            next_indent: *random.pick(&[0, 0, 0, 1, 2, 64, 64 + past]),
+            indent: *random.pick(&[0, 0, 1, 3, 20, 384, 384 + past]),
+            next_indent: *random.pick(&[0, 0, 0, 1, 2, 384, 384 + past]),
             column: *random.pick(&[0, 0, 1, 40, width - 1, width, column]),
         },
         marks_in_use: in_use,
@@ -509,5 +524,6 @@ fn render_state(
             _ => widths::chosen(random, width),
         },
         rule: 0,
+        listed: Listed::default(),
     }
 }

@@ -1,5 +1,6 @@
 //! Frames to try, each determined by its class, a seed and an index.
 
+mod allotments;
 mod batch_cases;
 mod batches;
 mod broad;
@@ -35,6 +36,10 @@ use crate::{
     random::Random,
 };
 
+pub use allotments::{
+    Document, Twist, document, fixed as allotment_cases,
+    handed as handed_case, list as allotment_list,
+};
 pub use batch_cases::{Case as FixedBatch, cases as fixed_batches};
 pub use batches::{Case as BatchCase, case as batch_case};
 pub use broad::frame as broad_frame;

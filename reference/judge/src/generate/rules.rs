@@ -4,7 +4,7 @@ use super::{
     CallCase, broad, entries, feet, lists, random_rows, realistic, wild,
 };
 use crate::{
-    calls::{Call, World},
+    calls::{Call, RenderArgs, World},
     choice::Choice,
     driver::Texts,
     image::with_header,
@@ -85,7 +85,9 @@ pub(super) fn with_rules(
     for call in &mut case.calls {
         match call {
             Call::Layout(args) => args.rule = chosen(random, laid),
-            Call::Render { rule, .. } => *rule = chosen(random, shown),
+            Call::Render(RenderArgs { rule, .. }) => {
+                *rule = chosen(random, shown)
+            }
         }
     }
     let World {

@@ -4,7 +4,8 @@ use std::{ops::Range, sync::LazyLock};
 
 use super::CallCase;
 use crate::{
-    calls::{Call, LayoutArgs, World},
+    allotment::ALL_ROWS,
+    calls::{Call, LayoutArgs, RenderArgs, World},
     frame::{self, Frame},
     image::{self, Tree, chosen, node, text},
     mode,
@@ -54,12 +55,13 @@ impl Case {
             rule: rule::SUPPLIED,
             archive: false,
         });
-        let rendering = Call::Render {
+        let rendering = Call::Render(RenderArgs {
             stop: rows,
             room: program::OUTPUT,
             width: width::REFERENCE,
             rule: rule::SUPPLIED,
-        };
+            allotment: ALL_ROWS,
+        });
         CallCase {
             source: self.source.clone(),
             image: self.image.clone(),

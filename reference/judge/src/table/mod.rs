@@ -55,11 +55,14 @@ pub fn table(seed: u64, count: u64) -> String {
         all.add_calls(&generate::call_case(seed, index));
         all.add_calls(&generate::rule_case(seed, index));
         all.add_calls(&generate::two_case(seed, index));
+        all.add_calls(&generate::allotment_list(seed, index));
+        all.add_calls(&generate::handed_case(seed, index).1);
     }
     writeln!(
         out,
-        "- lists of calls: {count}, as many with rules, and as many on \
-         images of version 2"
+        "- lists of calls: {count}, as many with rules, as many on images of \
+         version 2, as many with allotments, and as many from states inside a \
+         row"
     )
     .unwrap();
     let mut lists = StepCounts::default();
@@ -169,7 +172,7 @@ impl Counts {
             let answer = calls::call(given, &mut world, *one);
             let number = answer.err().map_or(0, |refusal| refusal.number);
             let counts = self.calls.entry(number).or_default();
-            counts[usize::from(matches!(one, Call::Render { .. }))] += 1;
+            counts[usize::from(matches!(one, Call::Render(_)))] += 1;
         }
     }
 

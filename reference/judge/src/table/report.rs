@@ -112,8 +112,8 @@ impl Counts {
         out.push_str("\n## Answers to calls\n\n");
         out.push_str("| Refusal | Layout | Rendering |\n|---|---:|---:|\n");
         let layout = [0, 1, 2, 3, 4, 5, 6, 7, 8, 12, 20];
-        let rendering = [0, 1, 2, 3, 9, 10, 11, 12, 15, 20];
-        for number in (0..=12).chain([15, 20]) {
+        let rendering = [0, 1, 2, 3, 9, 10, 11, 12, 15, 20, 22, 23];
+        for number in (0..=12).chain([15, 20, 22, 23]) {
             let counts = self.calls.get(&number).copied().unwrap_or_default();
             let known =
                 [&layout[..], &rendering].map(|k| k.contains(&number));

@@ -3,7 +3,8 @@
 #![allow(dead_code)]
 
 use judge::{
-    driver::{Page, Pen, RenderedRows, Texts, render_rows},
+    allotment::ALL_ROWS,
+    driver::{Page, Pen, RenderedRows, Start, Texts, render_rows},
     rows::{self, Row},
 };
 
@@ -47,7 +48,7 @@ pub fn render_on(nodes: &[N], pen: Pen, page: Page) -> RenderedRows {
         image: b"",
         words: b"",
     };
-    render_rows(texts, &rows, 0, pen, &[], page)
+    render_rows(texts, &rows, Start::at(0, pen), page, ALL_ROWS)
 }
 
 /// The text of nodes rendered from fresh.

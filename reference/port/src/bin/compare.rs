@@ -7,12 +7,14 @@ use port::compare::{Item, Plan, Tally, one};
 const USAGE: &str = "\
 usage: compare SEED FRAMES [LISTS [FILES [STEPS [BATCHES [REPORTS [MOVES [TREES]]]]]]]
            FRAMES frames of each class, with widths, with comments at the foot, with wide characters and with comments in any order,
-           LISTS lists of calls of each sort,
-           FILES files counted, STEPS images to steps and back, and as many lists of steps, BATCHES batches,
+           and as many documents rendered up to every row, LISTS lists of calls of each sort, FILES files counted,
+           STEPS images to steps and back, and as many lists of steps, BATCHES batches,
            REPORTS inputs of the program report, MOVES images forward to version 2 and back, and as many of version 2,
            TREES trees of operators to be read back, and as many of all classes
        compare KIND SEED INDEX
            one of them again; KIND as a difference names it
+ONLY=KIND,KIND compare SEED FRAMES ..
+           those of these kinds alone
 ";
 
 fn main() -> ExitCode {
@@ -29,6 +31,8 @@ fn main() -> ExitCode {
     }
     println!("{:.1} seconds", start.elapsed().as_secs_f64());
     println!("{} texts tried word by word", tally.texts());
+    let rows = tally.margins_tried();
+    println!("{rows} times a row was tried by request 13's sentence");
     println!("{} differences", tally.differences);
     if tally.differences == 0 {
         ExitCode::SUCCESS
@@ -56,8 +60,12 @@ fn compare(words: &[&str]) -> Option<Tally> {
         };
         println!(
             "{} frames of each class, with widths, with comments at the \
-             foot, with wide characters and with comments in any order, {} lists of each sort, {} files counted, {} images to \
-             steps and back, {} lists of steps, {} batches, {} reports, {} images forward and back, {} trees read back",
+             foot, with wide characters and with comments in any order, \
+             {} documents up to every row, \
+             {} lists of each sort, {} files counted, {} images to \
+             steps and back, {} lists of steps, {} batches, {} reports, \
+             {} images forward and back, {} trees read back",
+            plan.frames,
             plan.frames,
             plan.lists,
             plan.files,
@@ -68,7 +76,13 @@ fn compare(words: &[&str]) -> Option<Tally> {
             plan.moves,
             plan.trees
         );
-        return Some(plan.run());
+        let only = env::var("ONLY").unwrap_or_default();
+        let kinds: Vec<&str> =
+            only.split(',').filter(|kind| !kind.is_empty()).collect();
+        if !kinds.is_empty() {
+            println!("of these {} alone", kinds.join(", "));
+        }
+        return Some(plan.run_kinds(&kinds));
     }
     let [kind, seed, index] = *words else {
         return None;

@@ -6,7 +6,7 @@ use std::{env, fs, process::ExitCode};
 use judge::reader;
 use port::measure::{self, Line, both, inputs};
 #[cfg(feature = "calls")]
-use port::measure::{batches, documents, moves, steps, verdicts};
+use port::measure::{batches, documents, moves, pieces, steps, verdicts};
 
 fn main() -> ExitCode {
     let paths: Vec<String> = env::args().skip(1).collect();
@@ -32,6 +32,13 @@ fn main() -> ExitCode {
     }
     print!("{}", measure::table(&lines));
     write(paths.first(), &measure::csv(&lines));
+    #[cfg(feature = "calls")]
+    {
+        let inputs = inputs::all();
+        let tariff = inputs.iter().filter(|i| i.name.contains("tariff"));
+        let lines: Vec<_> = tariff.flat_map(pieces::of_file).collect();
+        print!("\n{}", pieces::table(&lines));
+    }
     stack(paths.get(1))
 }
 

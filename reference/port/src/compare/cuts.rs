@@ -5,11 +5,15 @@
 //! file for the order of its comments.
 
 use judge::{
-    calls::{Answer, Given, LayoutArgs, LayoutState, RenderState},
+    allotment::ALL_ROWS,
+    calls::{
+        Answer, Given, LayoutArgs, LayoutState, RenderArgs, RenderState,
+    },
     choice::Choice,
     contents::{Contents, Place},
     driver::{Page, Run, Shown},
     frame::Frame,
+    listed::Listed,
     mode::{NEW, OLD},
     program::{self, OUTPUT, Widths},
     reader::Reading,
@@ -221,6 +225,8 @@ struct Part<'p> {
     stop: usize,
     shown: &'p Shown,
     text: &'p [u8],
+    /// The rows entered.
+    entered: usize,
     /// Those of the pieces at which it starts and ends.
     places: [Place; 2],
 }
@@ -406,32 +412,38 @@ impl Cut<'_> {
         let end = Shown {
             pen: run.pen,
             bytes: run.text.len(),
+            entered: run.entered,
             marks: run.marks.clone(),
         };
         let stops = run.stops.iter().map(|stop| stop.next_row);
         let stops = stops.chain([run.rows.len()]);
         let shown = run.shown.iter().chain([&end]);
         let places = texts::places(self.contents, run);
-        let mut from = (Place::default(), 0);
+        let mut from = (Place::default(), 0, 0);
         for ((stop, shown), place) in stops.zip(shown).zip(places) {
             let part = Part {
                 stop,
                 shown,
                 text: &run.text.as_bytes()[from.1..shown.bytes],
+                entered: shown.entered - from.2,
                 places: [from.0, place],
             };
             self.one_byte_short(&state, &part)?;
             self.render(&mut state, &part)?;
             self.other_width(&state, stop)?;
             self.other_page(&state, stop)?;
-            from = (place, shown.bytes);
+            from = (place, shown.bytes, shown.entered);
         }
         Some(())
     }
 
     fn render(&mut self, state: &mut RenderState, due: &Part) -> Option<()> {
         let Part {
-            stop, shown, text, ..
+            stop,
+            shown,
+            text,
+            entered,
+            ..
         } = *due;
         // Exactly full, or with bytes to spare.
         let mut output = junk_bytes(text.len() + 3 * (stop % 2));
@@ -445,10 +457,12 @@ impl Cut<'_> {
             next_row: stop,
             width: self.choice.width,
             rule: self.choice.rule,
+            listed: Listed::default(),
         };
         let answer = Answer::Written {
             state: after,
             bytes: text.len(),
+            entered,
         };
         let what = format!("rendering from {state:?}");
         let got = self.call(state, stop, &mut output);
@@ -549,8 +563,7 @@ impl Cut<'_> {
             &mut self.marks[..needed - 1],
             &mut [],
             &RenderState::default(),
-            rows,
-            page,
+            whole(rows, page),
         );
         let what = "rendering one mark short";
         let due = Err(refusal(9, needed));
@@ -588,12 +601,22 @@ impl Cut<'_> {
             &mut self.marks,
             output,
             state,
-            stop,
-            page,
+            whole(stop, page),
         );
         let what = "the store after rendering";
         expect_store(self.tally, what, &before, &self.store);
         answer
+    }
+}
+
+/// What a rendering call that may enter all rows is told.
+fn whole(stop: usize, page: Page) -> RenderArgs {
+    RenderArgs {
+        stop,
+        room: 0,
+        width: page.width,
+        rule: page.rule,
+        allotment: ALL_ROWS,
     }
 }
 

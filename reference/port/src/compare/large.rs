@@ -1,7 +1,8 @@
 //! Stores about as large as rendering takes: 2,097,152 rows, and one more.
 
 use judge::{
-    calls::{Call, LayoutArgs, LayoutState, MOST_ROWS, World},
+    allotment::ALL_ROWS,
+    calls::{Call, LayoutArgs, LayoutState, MOST_ROWS, RenderArgs, World},
     driver::Stop,
     generate::CallCase,
     image::{self, node},
@@ -15,11 +16,14 @@ pub const COUNT: usize = 6;
 
 /// Calls on the largest store and on one row more, by place under [`COUNT`].
 pub fn numbered(place: usize) -> CallCase {
-    let render = |stop, rule| Call::Render {
-        stop,
-        room: 1 << 22,
-        width: REFERENCE,
-        rule,
+    let render = |stop, rule| {
+        Call::Render(RenderArgs {
+            stop,
+            room: 1 << 22,
+            width: REFERENCE,
+            rule,
+            allotment: ALL_ROWS,
+        })
     };
     let laying = |next_row| LayoutState {
         begun: true,

@@ -1,14 +1,15 @@
 //! Lists of calls, every buffer compared whole after every call.
 
 use judge::{
+    allotment::ALL_ROWS,
     calls::{
-        self, Answer, Call, Given, LayoutArgs, LayoutState, RenderState,
-        World,
+        self, Answer, Call, Given, LayoutArgs, LayoutState, RenderArgs,
+        RenderState, World,
     },
     contents::{Contents, Place},
-    driver::Page,
     frame::Frame,
     generate::CallCase,
+    listed::Listed,
     mode::NEW,
     random::Random,
     refusal::Refusal,
@@ -87,11 +88,14 @@ impl<'l> List<'l> {
         let rule = chosen(rendering.rule, rule);
         let left = self.contents.is_some() && rendering.next_row < stop;
         left.then(|| {
-            let one = |room| Call::Render {
-                stop,
-                room,
-                width,
-                rule,
+            let one = |room| {
+                Call::Render(RenderArgs {
+                    stop,
+                    room,
+                    width,
+                    rule,
+                    allotment: ALL_ROWS,
+                })
             };
             let mut world = self.due.clone();
             match calls::call(self.given, &mut world, one(usize::MAX)) {
@@ -115,7 +119,7 @@ impl<'l> List<'l> {
         let (kind, room) = match one {
             Call::Layout(args) if args.archive => ("archive layout", 0),
             Call::Layout(_) => ("layout", 0),
-            Call::Render { room, .. } => ("rendering", room),
+            Call::Render(args) => ("rendering", args.room),
         };
         let number = answer.err().map_or(0, |refusal| refusal.number);
         tally.count(&format!("{heading}, {kind}"), number);
@@ -158,7 +162,10 @@ impl<'l> List<'l> {
         answer: Result<Answer, Refusal>,
         laid: usize,
     ) {
-        let (Call::Render { stop, .. }, Ok(_)) = (one, answer) else {
+        let Call::Render(RenderArgs { stop, .. }) = one else {
+            return;
+        };
+        let Ok(Answer::Written { state, .. }) = answer else {
             return;
         };
         if stop > laid {
@@ -170,7 +177,7 @@ impl<'l> List<'l> {
         let to = reached(contents, &self.due.laying);
         let from = Place::default();
         let texts = [&self.due.text, &self.got.text];
-        if stop == laid {
+        if state.next_row == laid {
             let sorts = [texts::JUDGED_CALLS, texts::CALLS];
             for (sort, text) in sorts.into_iter().zip(texts) {
                 texts::expect(tally, sort, contents, [from, to], text);
@@ -209,11 +216,9 @@ fn port_call(
         Call::Layout(args) => {
             crate::layout(given, store, &world.laying, args)
         }
-        Call::Render {
-            stop, width, rule, ..
-        } => {
-            let (state, page) = (&world.rendering, Page { width, rule });
-            crate::render(given, store, marks, output, state, stop, page)
+        Call::Render(args) => {
+            let state = &world.rendering;
+            crate::render(given, store, marks, output, state, args)
         }
     }
 }
@@ -235,7 +240,7 @@ pub fn stretched(case: &CallCase, seed: u64, index: u64) -> CallCase {
     let random = &mut Random::new(101, seed, index);
     let mut case = case.clone();
     let far = *random.pick(&FAR);
-    let chosen = random.below(20);
+    let chosen = random.below(22);
     let which = random.below(case.calls.len());
     let laying = &mut case.world.laying;
     let rendering = &mut case.world.rendering;
@@ -254,7 +259,7 @@ pub fn stretched(case: &CallCase, seed: u64, index: u64) -> CallCase {
         10 => rendering.width = far,
         11 => {
             for call in &mut case.calls[which..] {
-                if let Call::Render { width, .. } = call {
+                if let Call::Render(RenderArgs { width, .. }) = call {
                     *width = far;
                 }
             }
@@ -275,17 +280,25 @@ pub fn stretched(case: &CallCase, seed: u64, index: u64) -> CallCase {
             laying.rule = far;
         }
         15 => rendering.rule = far,
+        20 => {
+            for call in &mut case.calls[which..] {
+                if let Call::Render(args) = call {
+                    args.allotment = far;
+                }
+            }
+        }
+        21 => rendering.listed = Listed::of_numbers(1, &[far as u64]),
         16 => {
             for call in &mut case.calls[which..] {
                 match call {
                     Call::Layout(LayoutArgs { rule, .. })
-                    | Call::Render { rule, .. } => *rule = far,
+                    | Call::Render(RenderArgs { rule, .. }) => *rule = far,
                 }
             }
         }
         _ => match &mut case.calls[which] {
             Call::Layout(LayoutArgs { stop, .. })
-            | Call::Render { stop, .. } => *stop = far,
+            | Call::Render(RenderArgs { stop, .. }) => *stop = far,
         },
     }
     case

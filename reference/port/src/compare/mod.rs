@@ -1,6 +1,8 @@
 //! Holds the port against the judge on generated inputs.
 
 #[cfg(feature = "calls")]
+mod allotments;
+#[cfg(feature = "calls")]
 mod batches;
 #[cfg(feature = "calls")]
 mod buffers;

@@ -13,6 +13,9 @@ pub struct Tally {
     /// How many texts of a sort were tried word by word, and how many of them
     /// are something else.
     texts: BTreeMap<&'static str, [u64; 2]>,
+    /// How many items of a kind there were, and how often request 13's sentence
+    /// was tried on a row of theirs.
+    margins: BTreeMap<String, [u64; 2]>,
     pub differences: u64,
     /// The first ones of each kind of item, by the item's place in the plan.
     first: BTreeMap<String, BTreeMap<(usize, u64), String>>,
@@ -29,6 +32,20 @@ impl Tally {
     pub fn count(&mut self, heading: &str, number: u8) {
         let key = (heading.to_string(), number);
         *self.counts.entry(key).or_default() += 1;
+    }
+
+    /// Counts the item under way, with how often request 13's sentence was
+    /// tried on a row of it: by the judge, who panics where it doesn't hold.
+    pub fn margins(&mut self, tried: u64) {
+        let kind = self.item.1.split(' ').next().unwrap_or_default();
+        let [items, rows] = self.margins.entry(kind.into()).or_default();
+        *items += u64::from(tried > 0);
+        *rows += tried;
+    }
+
+    /// How often it was tried in all.
+    pub fn margins_tried(&self) -> u64 {
+        self.margins.values().map(|[_, tried]| tried).sum()
     }
 
     pub fn differ(&mut self, what: String) {
@@ -110,6 +127,12 @@ impl Tally {
                 *count += other;
             }
         }
+        for (kind, others) in other.margins {
+            let counts = self.margins.entry(kind).or_default();
+            for (count, other) in counts.iter_mut().zip(others) {
+                *count += other;
+            }
+        }
         self.differences += other.differences;
         for (kind, others) in other.first {
             let first = self.first.entry(kind).or_default();
@@ -120,8 +143,8 @@ impl Tally {
         }
     }
 
-    /// A line for each heading and each sort of text, then the first
-    /// differences.
+    /// A line for each heading, each sort of text and each kind of item with
+    /// rows that are rendered, then the first differences.
     pub fn report(&self) -> String {
         let mut lines: BTreeMap<&str, Vec<String>> = BTreeMap::new();
         for ((heading, number), count) in &self.counts {
@@ -141,6 +164,13 @@ impl Tally {
                 out += &format!(", {faulty} not the program");
             }
             out += "\n";
+        }
+        for (kind, [items, tried]) in &self.margins {
+            if *tried > 0 {
+                out += &format!(
+                    "13's sentence, {kind}: tried on {tried} rows of {items} items\n"
+                );
+            }
         }
         for what in self.first.values().flat_map(BTreeMap::values) {
             out += &format!("difference, {what}\n");

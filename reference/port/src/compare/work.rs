@@ -11,6 +11,7 @@ use std::{
 #[cfg(feature = "calls")]
 use judge::generate::CallCase;
 use judge::{
+    driver,
     frame::Frame,
     generate::{self, Class},
     width::REFERENCE,
@@ -114,14 +115,27 @@ pub enum Item {
     /// The tree of a file of any class.
     #[cfg(feature = "calls")]
     AnyVerdict(u64),
+    /// A document to stop in everywhere.
+    #[cfg(feature = "calls")]
+    Allotted(u64),
+    /// A list of calls with allotments.
+    #[cfg(feature = "calls")]
+    AllotmentList(u64),
+    /// A state handed in that is nearly that of a stop.
+    #[cfg(feature = "calls")]
+    Handed(u64),
+    /// A case of the fixed list of calls with allotments.
+    #[cfg(feature = "calls")]
+    FixedAllotment(usize),
 }
 
 /// All items of a run: so many frames of each class but `sizes`, as many
 /// with widths of their own, with comments after the last declaration, with
-/// characters of two columns, with comments in order or not, and as many texts
-/// with ranges, all sizes, rendering answers and calls with rules once, and so
-/// many lists, as many of them on files with such comments, with rules, and at
-/// both entries of layout. With lists come the
+/// characters of two columns, with comments in order or not, as many documents
+/// up to every single row, and as many texts with ranges, all sizes, rendering
+/// answers, calls with rules and calls with allotments once, and so many lists,
+/// as many of them on files with such comments, with rules, at both entries of
+/// layout, with allotments, and from states inside a row. With lists come the
 /// largest stores and all code points. Last, so many files to count, so many
 /// images to steps and back with as many lists of steps, so many batches, with
 /// which comes their fixed list, so many inputs of the program `report`, and so
@@ -170,6 +184,8 @@ impl Plan {
             let rendering = rendering_cases().len();
             items.extend((0..rendering).map(Item::Rendering));
             items.extend((0..rule_cases().len()).map(Item::Rules));
+            let allotted = generate::allotment_cases().len();
+            items.extend((0..allotted).map(Item::FixedAllotment));
             items.extend((0..every_text().len()).map(Item::Text));
         }
         for class in CLASSES {
@@ -181,6 +197,8 @@ impl Plan {
         #[cfg(feature = "calls")]
         items.extend((0..self.frames).map(Item::Order));
         #[cfg(feature = "calls")]
+        items.extend((0..self.frames).map(Item::Allotted));
+        #[cfg(feature = "calls")]
         items.extend((0..self.frames).map(Item::Ranges));
         #[cfg(feature = "calls")]
         for index in 0..self.lists {
@@ -191,6 +209,8 @@ impl Plan {
                 Item::RuleList,
                 Item::StretchedRules,
                 Item::OrderList,
+                Item::AllotmentList,
+                Item::Handed,
             ];
             items.extend(list.map(|item| item(index)));
         }
@@ -258,7 +278,17 @@ impl Plan {
 
     /// Compares all items, on as many threads as the machine has cores.
     pub fn run(&self) -> Tally {
-        let items = self.items();
+        self.run_kinds(&[])
+    }
+
+    /// The same with the items of some kinds alone, if any is named.
+    pub fn run_kinds(&self, kinds: &[&str]) -> Tally {
+        let mut items = self.items();
+        items.retain(|item| {
+            let name = name(*item, self.seed);
+            let kind = name.split(' ').next().expect("a kind");
+            kinds.is_empty() || kinds.contains(&kind)
+        });
         let next = AtomicUsize::new(0);
         let threads = thread::available_parallelism().map_or(1, usize::from);
         let mut tally = Tally::default();
@@ -298,6 +328,7 @@ pub fn one(tally: &mut Tally, item: Item, seed: u64) {
     if catch_unwind(compare).is_err() {
         tally.differ("panic".into());
     }
+    tally.margins(driver::margins_tried());
 }
 
 fn compare(tally: &mut Tally, item: Item, seed: u64) {
@@ -437,6 +468,23 @@ fn compare(tally: &mut Tally, item: Item, seed: u64) {
         Item::AnyVerdict(index) => {
             super::verdicts::compare_any(tally, seed, index);
         }
+        #[cfg(feature = "calls")]
+        Item::Allotted(index) => {
+            super::allotments::compare(tally, seed, index);
+        }
+        #[cfg(feature = "calls")]
+        Item::AllotmentList(index) => {
+            super::allotments::compare_list(tally, seed, index);
+        }
+        #[cfg(feature = "calls")]
+        Item::Handed(index) => {
+            super::allotments::compare_handed(tally, seed, index);
+        }
+        #[cfg(feature = "calls")]
+        Item::FixedAllotment(place) => {
+            let case = &generate::allotment_cases()[place];
+            super::lists::compare(tally, "allotments, fixed list", case);
+        }
     }
 }
 
@@ -531,6 +579,14 @@ fn name(item: Item, seed: u64) -> String {
         Item::FixedVerdict(place) => ("fixed-verdict", place as u64),
         #[cfg(feature = "calls")]
         Item::AnyVerdict(index) => ("any-verdict", index),
+        #[cfg(feature = "calls")]
+        Item::Allotted(index) => ("allotted", index),
+        #[cfg(feature = "calls")]
+        Item::AllotmentList(index) => ("allotment-list", index),
+        #[cfg(feature = "calls")]
+        Item::Handed(index) => ("handed", index),
+        #[cfg(feature = "calls")]
+        Item::FixedAllotment(place) => ("fixed-allotment", place as u64),
     };
     format!("{kind} {seed} {index}")
 }
@@ -600,6 +656,14 @@ impl Item {
             "fixed-verdict" => Some(Item::FixedVerdict(index as usize)),
             #[cfg(feature = "calls")]
             "any-verdict" => Some(Item::AnyVerdict(index)),
+            #[cfg(feature = "calls")]
+            "allotted" => Some(Item::Allotted(index)),
+            #[cfg(feature = "calls")]
+            "allotment-list" => Some(Item::AllotmentList(index)),
+            #[cfg(feature = "calls")]
+            "handed" => Some(Item::Handed(index)),
+            #[cfg(feature = "calls")]
+            "fixed-allotment" => Some(Item::FixedAllotment(index as usize)),
             _ => Class::from_name(kind).map(|c| Item::Frame(c, index)),
         }
     }

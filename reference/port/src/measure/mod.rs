@@ -7,6 +7,8 @@ pub mod documents;
 pub mod inputs;
 #[cfg(feature = "calls")]
 pub mod moves;
+#[cfg(feature = "calls")]
+pub mod pieces;
 #[cfg(feature = "formatter")]
 mod saves;
 #[cfg(feature = "calls")]

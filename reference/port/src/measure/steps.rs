@@ -3,9 +3,12 @@
 use std::{fmt::Write, hint::black_box};
 
 use judge::{
-    calls::{Answer, Given, LayoutArgs, LayoutState, RenderState},
+    allotment::ALL_ROWS,
+    calls::{
+        Answer, Given, LayoutArgs, LayoutState, RenderArgs, RenderState,
+    },
     choice::Choice,
-    driver::{self, Held, Page, Run},
+    driver::{self, Held, Run},
     figures::Tallies,
     frame::Frame,
     generate::{self, SizeCase},
@@ -15,6 +18,7 @@ use judge::{
     rows::{self, Row},
     rule::{SUPPLIED, UNICODE_15_1, UNICODE_16_0},
     tree,
+    width::REFERENCE,
 };
 
 #[cfg(feature = "formatter")]
@@ -66,10 +70,12 @@ impl Ported<'_> {
             &mut self.marks,
             &mut self.output,
             &RenderState::default(),
-            self.rows,
-            Page {
+            RenderArgs {
+                stop: self.rows,
+                room: 0,
+                width: REFERENCE,
                 rule: self.rule,
-                ..Page::REFERENCE
+                allotment: ALL_ROWS,
             },
         );
         match answer {

@@ -4,10 +4,10 @@ use std::sync::atomic::Ordering;
 
 use judge::{
     calls::{
-        Answer, Given, LayoutArgs, LayoutState, World, layout_call,
-        render_call,
+        Answer, Given, LayoutArgs, LayoutState, RenderArgs, World,
+        layout_call, render_call,
     },
-    driver::{Page, Texts},
+    driver::Texts,
     reader::{self, Reading},
     refusal::{Refusal, refusal},
     rows::{self, Row},
@@ -127,35 +127,23 @@ fn widen_shebang(given: Given, world: &mut World, rule: usize) {
 }
 
 /// A rendering call.
-pub fn render(
-    given: Given,
-    world: &mut World,
-    stop: usize,
-    room: usize,
-    page: Page,
-) -> Answered {
+pub fn render(given: Given, world: &mut World, args: RenderArgs) -> Answered {
     if !spoils() {
-        return render_call(given, world, stop, room, page);
+        return render_call(given, world, args);
     }
-    early(given, page.rule)?;
-    let mut rule = two(given, looked_at(page.rule))?;
+    early(given, args.rule)?;
+    let mut rule = two(given, looked_at(args.rule))?;
     if planted(Fault::TwoRendered) && given.image.first() == Some(&2) {
         rule = UNICODE_16_0;
     }
-    let page = Page { rule, ..page };
+    let args = RenderArgs { rule, ..args };
     if planted(Fault::RenderRuleNotKept) {
         world.rendering.rule = 0;
     }
-    let call = Rendering {
-        given,
-        stop,
-        room,
-        page,
-    };
-    let answer = call.spoiled(world);
-    if let Ok(Answer::Written { mut state, bytes }) = answer {
+    let call = Rendering { given, args };
+    let mut answer = call.spoiled(world);
+    if let Ok(Answer::Written { state, .. }) = &mut answer {
         state.rule = rule;
-        return Ok(Answer::Written { state, bytes });
     }
     answer
 }
@@ -185,33 +173,25 @@ fn early(given: Given, rule: usize) -> Result<(), Refusal> {
 #[derive(Clone, Copy)]
 struct Rendering<'g> {
     given: Given<'g>,
-    stop: usize,
-    room: usize,
-    page: Page,
+    args: RenderArgs,
 }
 
 impl Rendering<'_> {
     /// As the judge answers it.
     fn right(self, world: &mut World) -> Answered {
-        let Rendering {
-            given,
-            stop,
-            room,
-            page,
-        } = self;
-        render_call(given, world, stop, room, page)
+        render_call(self.given, world, self.args)
     }
 
     /// The same by another rule, whatever is carried.
     fn by(self, world: &mut World, rule: usize) -> Answered {
-        let page = Page { rule, ..self.page };
+        let args = RenderArgs { rule, ..self.args };
         world.rendering.rule = 0;
-        Rendering { page, ..self }.right(world)
+        Rendering { args, ..self }.right(world)
     }
 
     /// As a fault has it.
     fn spoiled(self, world: &mut World) -> Answered {
-        let rule = self.page.rule;
+        let rule = self.args.rule;
         let before = world.clone();
         let right = self.right(world);
         let after = std::mem::replace(world, before.clone());
@@ -244,7 +224,7 @@ impl Rendering<'_> {
 
     /// What is answered in place of 11 for a row.
     fn torn(self, world: &mut World, place: usize) -> Option<Answered> {
-        if self.page.rule == SUPPLIED {
+        if self.args.rule == SUPPLIED {
             return None;
         }
         let mut supplied = world.clone();
@@ -292,7 +272,7 @@ impl Rendering<'_> {
 
     /// The places of the rows that are read.
     fn read(self, world: &World) -> impl Iterator<Item = (usize, Row)> {
-        let rows = world.rows(self.stop).into_iter().enumerate();
+        let rows = world.rows(self.args.stop).into_iter().enumerate();
         rows.skip(world.rendering.next_row)
     }
 
@@ -313,7 +293,7 @@ impl Rendering<'_> {
     fn measure_strings(self, world: &mut World) {
         let words = rows::fixed_words();
         let texts = self.texts(&words);
-        let edition = rule::edition(self.page.rule).expect("Unicode's");
+        let edition = rule::edition(self.args.rule).expect("Unicode's");
         for (place, mut row) in self.read(world).collect::<Vec<_>>() {
             let origin = texts.origin(row.origin).expect("an origin");
             let text = &origin[row.start as usize..][..row.length as usize];
@@ -329,7 +309,7 @@ impl Rendering<'_> {
     fn turn_one(self, world: &mut World) {
         let ascii = self.read(world).find(|(_, row)| row.kind == rows::ASCII);
         if planted(Fault::RowsTurned)
-            && self.page.rule != SUPPLIED
+            && self.args.rule != SUPPLIED
             && let Some((place, mut row)) = ascii
         {
             row.kind = rows::STR;

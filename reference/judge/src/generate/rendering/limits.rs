@@ -44,12 +44,14 @@ pub fn pens() -> Vec<CallCase> {
     for of_pen in [
         [64, 0, 0],
         [65, 0, 0],
-        [0, 64, 7],
-        [0, 65, 7],
-        [64, 64, 0],
+        [384, 0, 0],
+        [385, 0, 0],
+        [0, 384, 7],
+        [0, 385, 7],
+        [384, 384, 0],
         [0, 0, column],
         [0, 0, column + 1],
-        [64, 64, column],
+        [384, 384, column],
         [u32::MAX as usize, 0, 0],
         [0, u32::MAX as usize, 0],
         [0, 0, usize::MAX],
@@ -245,7 +247,7 @@ pub fn order() -> Vec<CallCase> {
     for causes in 0..32 {
         let chosen = |cause: usize| causes >> cause & 1;
         let mut case = on_rows(&wide_group([2, 0][chosen(0)]));
-        case.world.rendering.pen = pen([[0, 65][chosen(1)], 0, 0]);
+        case.world.rendering.pen = pen([[0, 385][chosen(1)], 0, 0]);
         case.world.marks = vec![4; [8, 2][chosen(2)]];
         let stop = [2, 3][chosen(3)];
         let width = [80, 39][chosen(4)];

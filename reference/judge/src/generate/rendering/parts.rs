@@ -2,7 +2,8 @@
 
 use super::super::CallCase;
 use crate::{
-    calls::{Call, World},
+    allotment::ALL_ROWS,
+    calls::{Call, RenderArgs, World},
     driver::Pen,
     rows::{self, Row},
     rule::SUPPLIED,
@@ -161,12 +162,13 @@ pub fn render(stop: usize, room: usize) -> Call {
 }
 
 pub fn render_at(width: usize, stop: usize, room: usize) -> Call {
-    Call::Render {
+    Call::Render(RenderArgs {
         stop,
         room,
         width,
         rule: SUPPLIED,
-    }
+        allotment: ALL_ROWS,
+    })
 }
 
 /// One call on nodes, from fresh.

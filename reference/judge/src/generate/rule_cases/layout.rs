@@ -2,7 +2,8 @@
 
 use super::super::{CallCase, rules::ILLEGAL};
 use crate::{
-    calls::{self, Call, Given, LayoutArgs, World},
+    allotment::ALL_ROWS,
+    calls::{self, Call, Given, LayoutArgs, RenderArgs, World},
     driver::Run,
     frame,
     image::{self, node, text},
@@ -226,12 +227,13 @@ pub fn unreadable() -> Vec<CallCase> {
     for rule in LEGAL {
         let calls = vec![
             layout(rule, 0, false),
-            Call::Render {
+            Call::Render(RenderArgs {
                 stop: 0,
                 room: 9,
                 width: REFERENCE,
                 rule,
-            },
+                allotment: ALL_ROWS,
+            }),
         ];
         let readable = on("const a: b = 1;", calls);
         for fault in 0..3 {

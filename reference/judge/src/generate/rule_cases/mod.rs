@@ -10,7 +10,12 @@ use super::{
     CallCase,
     rendering::parts::{self, Part},
 };
-use crate::{calls::Call, image::with_header, width::REFERENCE};
+use crate::{
+    allotment::ALL_ROWS,
+    calls::{Call, RenderArgs},
+    image::with_header,
+    width::REFERENCE,
+};
 
 pub use texts::every as every_text;
 
@@ -76,10 +81,11 @@ fn on_source(source: &str, nodes: &[Part], rule: usize) -> CallCase {
 }
 
 fn render(rule: usize, stop: usize, room: usize) -> Call {
-    Call::Render {
+    Call::Render(RenderArgs {
         stop,
         room,
         width: REFERENCE,
         rule,
-    }
+        allotment: ALL_ROWS,
+    })
 }

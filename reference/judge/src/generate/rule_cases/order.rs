@@ -9,7 +9,7 @@ use super::{
     on, render,
 };
 use crate::{
-    calls::{Call, LayoutArgs},
+    calls::{Call, LayoutArgs, RenderArgs},
     image::{self, Tree, node},
     mode::OLD,
     reader::Version,
@@ -108,7 +108,9 @@ fn several(rule: usize, wrong: impl Fn(usize) -> bool) -> CallCase {
     }
     case.world.marks = vec![4; if wrong(4) { 2 } else { 8 }];
     case.world.rendering.pen = pen([0, 0, 60]);
-    if let [Call::Render { width, room, .. }] = &mut case.calls[..] {
+    if let [Call::Render(RenderArgs { width, room, .. })] =
+        &mut case.calls[..]
+    {
         *width = if wrong(5) { 39 } else { 80 };
         *room = 40;
     }

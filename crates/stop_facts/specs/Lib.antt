@@ -1,0 +1,2 @@
+pub mod SoFar
+pub mod HandedOn

@@ -1,0 +1,2 @@
+// Theory only: what is proved of the stops of renderings.
+#![tactic(auto)]
