@@ -58,7 +58,7 @@ module _ (s b : List ℕ) (c : FileChoice) where
   as_many = ap sizes whole ∙ laid_size c.rule s b (built s b c).nodes
 
   -- what `Renderer` leaves of nodes with so many marks, and how many rows it enters
-  abbrev made_of : Nodes → ℕ → Drawn
+  abbrev pub made_of : Nodes → ℕ → Drawn
   made_of ns m =
       let pg = page (render_choice c) s b in
       let r = renderer_of render_fresh.pen (replicate m 0) in

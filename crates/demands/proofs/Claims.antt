@@ -10,6 +10,7 @@ use Rattle.demands.proofs.Archive.{archive_1}
 use Rattle.readback.proofs.Claimed.{verdict_holds}
 use Rattle.demands.proofs.ReadsBack.{reads_back_1}
 use Rattle.renderer_rules.proofs.Call.{call_as_rust}
+use Rattle.renderer_rules.proofs.Drift.{never_drifts, ends_at_margin}
 use Rattle.listed_rows.proofs.Numbers.{numbers_rows}
 use Rattle.renderer_rules.proofs.Checked.{fault_of_part}
 use Rattle.renderer_rules.proofs.Holds.{writes_pieces, no_slash_around}
@@ -43,6 +44,10 @@ use Rattle.demands.proofs.Text.{reply_is_the_program, calls_are_the_program, lin
 use Rattle.demands.proofs.Text.{calls_kept_inside, linked_calls_kept_inside, comments_held_so_far}
 use Rattle.stop_facts.proofs.HandedOn.{handed_on, handed_along, handed_away, handed_from}
 use Rattle.stop_facts.proofs.AtBound.{bound_is_passed}
+use Rattle.stop_facts.proofs.MarginEntry.{entry_kept}
+use Rattle.stop_facts.proofs.MarginCalls.{calls_keep}
+use Rattle.stop_facts.proofs.MarginOver.{kept_over_calls}
+use Rattle.demands.proofs.Margin.{document_ends_at_margin, margin_over_calls, linked_document_ends_at_margin, linked_margin_over_calls}
 use Rattle.demands.proofs.Text.{closed_calls_hold_all, batch_is_the_programs, linked_batch_is_the_programs}
 
 pub claims : Claims
@@ -123,6 +128,13 @@ claims = record {
     handed_away = handed_away;
     handed_from = handed_from;
     bound_is_passed = bound_is_passed;
+    never_drifts = never_drifts;
+    ends_at_margin = ends_at_margin;
+    document_ends_at_margin = document_ends_at_margin;
+    entry_kept = entry_kept;
+    calls_keep = calls_keep;
+    kept_over_calls = kept_over_calls;
+    margin_over_calls = margin_over_calls;
   };
   linked = record {
     linked_promises = linked_promises;
@@ -136,5 +148,7 @@ claims = record {
     linked_calls_are_the_program = linked_calls_are_the_program;
     linked_calls_kept_inside = linked_calls_kept_inside;
     linked_batch_is_the_programs = linked_batch_is_the_programs;
+    linked_document_ends_at_margin = linked_document_ends_at_margin;
+    linked_margin_over_calls = linked_margin_over_calls;
   };
 }

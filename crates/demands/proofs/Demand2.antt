@@ -1,10 +1,10 @@
 -- The calls answer by the rules, and the rules from fresh are `fmt_parsed` and `Renderer`.
 -- Assumes nothing.
 use mathlib.Core.Path.{◌≡◌, refl, ap, ◌∙◌}
-use mathlib.Core.Bool.{true, false}
+use mathlib.Core.Bool.{Bool, true, false}
 use Rattle.std.specs.Prelude.{Option, Ok}
 use mathlib.Core.List.{List, [], ◌∷◌}
-use Prim.Native.Nat.{ℕ}
+use Prim.Native.Nat.{ℕ, ◌≤◌}
 use native.Mathlib.Omega.{arith}
 use lib.ListN.{length}
 use Rattle.image.specs.Read.{read_earlier}
@@ -23,7 +23,7 @@ use Rattle.cut_rule.proofs.Table.{layout_told}
 use Rattle.cut_rule.proofs.Answers.{LaidBy, laid_by, written_by}
 use Rattle.whole_run.specs.Parts.{other_rule, parts_of}
 use Rattle.whole_run.specs.Demands.{rules_of, Gives, laid_to}
-use Rattle.whole_run.specs.Built.{FileChoice, declared, laid as document, rows_due, drawn_due}
+use Rattle.whole_run.specs.Built.{FileChoice, declared, laid as document, rows_due, marks_due, drawn_due}
 use Rattle.whole_run.specs.File.{file_refusal, FileResult, file_result}
 use Rattle.whole_run.proofs.Demands.{due_is_fmt_parsed, laid_within_limits}
 use Rattle.whole_run.proofs.Foot.{closing_places_all}
@@ -37,7 +37,7 @@ use Rattle.render_call.specs.declared.RenderArgs.{RenderArgs}
 use Rattle.render_call.specs.Calls as render
 use Rattle.demands.specs.Fresh.{fresh_layout, fresh_render}
 use Rattle.demands.proofs.Fresh.{fresh_state}
-use Rattle.demands.proofs.Allotted.{all_drawn}
+use Rattle.demands.proofs.Allotted.{made_of, all_drawn}
 use Rattle.demands.specs.Demand2.{LaidOutAs, AtStopDue, ClosedDue, ClosedKeepingDue, RenderedDue, FileDue, Demand2}
 
 -- ---- layout
@@ -94,27 +94,41 @@ closed_keeping archive s b store rule t left store2 p =
     )
 
 -- ---- rendering
+-- what a rendering from fresh draws of the rows that a layout call which closed left
+module _ (archive : Bool) (s b store : List ℕ) (mode rule : ℕ) (t : LayoutState) (left : ℕ) (store2 : List ℕ)
+    (p : LayoutCalled s b fresh_layout (record { stop = length (declared s b); close = true; mode = mode; rule = rule; archive = archive }) store
+    (Ok (record { state = t; left = left })) store2) where
+  abbrev choice : ℕ → FileChoice
+  choice width = record { width = width; mode = mode; rule = rule }
+
+  abbrev to : ℕ → ℕ → RenderTo states.RenderChoice
+  to width row = record { stop = row; choice = record { width = width; rule = rule } }
+
+  pub all_due : (width allotment : ℕ) → t.row ≤ allotment → (listed : List ℕ)
+      → drawn_of (parts_of s b) (render.to_state fresh_render listed) (to width t.row) allotment [] store2
+      ≡ made_of s b (choice width) (document s b (choice width)) (marks_due s b (choice width))
+  all_due width allotment enough listed =
+      let c = choice width in
+      let all : LayoutArgs = record { stop = length (declared s b); close = true; mode = mode; rule = rule; archive = archive } in
+      let before = laid s b store all t left store2 p in
+      let row : t.row ≡ rows_due s b c =
+      ap (λ (x : states.LayoutState). x.cursor.row) before.state ∙ ap (λ (l : LayoutResult states.LayoutState). l.state.cursor.row) (laid_due s b c) in
+      let left_store : store2 ≡ write_front (rows (document s b c) 0) store =
+      p.store_left_of
+      ∙ ap (λ (x : Option Refusal). unless x store (write_front (given s b store all t left store2 p).rows store)) before.passes
+      ∙ ap (λ (l : LayoutResult states.LayoutState). write_front l.rows store) (laid_due s b c) in
+      let read = none_either archive s b (layout_told (parts_of s b) (layout.to_args all) (layout.to_state fresh_layout) store before.passes).image in
+      (λ i. drawn_of (parts_of s b) (fresh_state listed i) (to width (row i)) allotment [] (left_store i))
+      ∙ all_drawn s b c store read allotment (omega (arith, row))
+
 rendered : RenderedDue
 rendered archive s b store mode rule t left store2 p width allotment enough marks out listed u n count store3 marks2 out2 listed2 q =
-    let c : FileChoice = record { width = width; mode = mode; rule = rule } in
     let args : RenderArgs = record { stop = t.row; allotment = allotment; width = record { 0 = width }; rule = rule } in
-    let to : ℕ → RenderTo states.RenderChoice = λ row. record { stop = row; choice = record { width = width; rule = rule } } in
     let z = render.to_state fresh_render listed in
-    let all : LayoutArgs = record { stop = length (declared s b); close = true; mode = mode; rule = rule; archive = archive } in
-    let before = laid s b store all t left store2 p in
-    let row : t.row ≡ rows_due s b c =
-    ap (λ (x : states.LayoutState). x.cursor.row) before.state ∙ ap (λ (l : LayoutResult states.LayoutState). l.state.cursor.row) (laid_due s b c) in
-    let left_store : store2 ≡ write_front (rows (document s b c) 0) store =
-    p.store_left_of
-    ∙ ap (λ (x : Option Refusal). unless x store (write_front (given s b store all t left store2 p).rows store)) before.passes
-    ∙ ap (λ (l : LayoutResult states.LayoutState). write_front l.rows store) (laid_due s b c) in
-    let read = none_either archive s b (layout_told (parts_of s b) (layout.to_args all) (layout.to_state fresh_layout) store before.passes).image in
     let a = written_by (rules_of s b) ((rules_of s b).render_refusal (render.to_args args (length out)) z store2 marks) (render.to_state u listed2) n.0 count
     _ _ _ q.answer in
-    let gives =
-    (λ i. drawn_of (parts_of s b) (fresh_state listed i) (to (row i)) allotment [] (left_store i))
-    ∙ all_drawn s b c store read allotment (omega (arith, row)) in
-    let was = drawn_of (parts_of s b) z (to t.row) allotment [] store2 in
+    let gives = all_due archive s b store mode rule t left store2 p width allotment enough listed in
+    let was = drawn_of (parts_of s b) z (render.goes_to args) allotment [] store2 in
     record {
       marks_due_of =
           q.marks_left_of

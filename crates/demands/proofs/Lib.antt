@@ -10,5 +10,6 @@ pub mod Archive
 pub mod ReadsBack
 pub mod Linked
 pub mod LinkedCalls
+pub mod Margin
 pub mod Text
 pub mod Claims

@@ -6,6 +6,7 @@ use Rattle.image.specs.Read.{ReadNumbers}
 use Rattle.rows.specs.Words.{WordsThere}
 use Rattle.acts.specs.Act.{Given, St}
 use Rattle.renderer_rules.specs.Call.{CallAsRust}
+use Rattle.renderer_rules.specs.Drift.{NeverDrifts, EndsAtMargin}
 use Rattle.listed_rows.specs.Numbers.{NumbersRows}
 use Rattle.widths.specs.Editions.{EditionsHold}
 use Rattle.node_widths.specs.Summed.{SuppliedStay}
@@ -24,6 +25,7 @@ use Rattle.tree.specs.InOrder.{StrictIsInOrder}
 use Rattle.whole_run.specs.Demands.{RulesCut, EntriesAgree, DueIsFmtParsed, LaidWithinLimits}
 use Rattle.whole_run.specs.Allotments.{AllotmentsJoin}
 use Rattle.stop_facts.specs.HandedOn.{HandedOn, HandedAlong, HandedAway, HandedFrom, BoundIsPassed}
+use Rattle.stop_facts.specs.Margin.{EntryKept, CallsKeep, KeptOverCalls}
 use Rattle.whole_run.specs.Edges.{EdgesHold, WidthsHold, EmptyLineHolds}
 use Rattle.whole_run.specs.File.{OldModeIsFmtParsed, NewModeLeavesNone}
 use Rattle.whole_run.specs.FileLimits.{FileTextLimited, FileColumnLimited}
@@ -38,6 +40,7 @@ use Rattle.demands.specs.Demand2 as two
 use Rattle.demands.specs.Demand3.{Demand3, CallsHoldAll, ClosingLeavesNone}
 use Rattle.demands.specs.Generator.{Generator1, GeneratorLists}
 use Rattle.demands.specs.Saves.{Saves1}
+use Rattle.demands.specs.Margin.{DocumentEndsAtMargin, MarginOverCalls, LinkedDocumentEndsAtMargin, LinkedMarginOverCalls}
 use Rattle.demands.specs.Linked.{LinkedPromises, Linked1, Linked2, Linked3, LinkedCallsHoldAll, LinkedLists, LinkedSingles}
 use Rattle.demands.specs.Text.{FileIsTheProgram, FileHolds, NewModeFileHoldsAll, LinkedFileIsTheProgram}
 use Rattle.demands.specs.Text.{ReplyIsTheProgram, CallsAreTheProgram, LinkedCallsAreTheProgram}
@@ -158,6 +161,19 @@ pub record TheRequests : Type 0 where
   pub handed_away : HandedAway
   pub handed_from : HandedFrom
   pub bound_is_passed : BoundIsPassed
+  -- 13: "for each row of an accepted store, each admitted state and each width: when the row is done, `indent` plus `next_indent` is what it was before,
+  -- `indent` is no smaller, and as each row within it is entered the sum is at most that before plus the rows, from this one down, that enclose the
+  -- entered one"
+  pub never_drifts : NeverDrifts
+  -- "Hence a whole document from fresh ends with both 0": of the rules, and of the calls
+  pub ends_at_margin : EndsAtMargin
+  pub document_ends_at_margin : DocumentEndsAtMargin
+  -- "With allotments, the state handed on and the row's range unchanged, it is said when the row finishes": of each row entered, by what closing the
+  -- rows listed there would leave; of one call; over calls of the rules; and over calls of the function
+  pub entry_kept : EntryKept
+  pub calls_keep : CallsKeep
+  pub kept_over_calls : KeptOverCalls
+  pub margin_over_calls : MarginOverCalls
 
 -- all of it of the functions that other languages link
 pub record TheLinked : Type 0 where
@@ -172,6 +188,8 @@ pub record TheLinked : Type 0 where
   pub linked_calls_are_the_program : LinkedCallsAreTheProgram
   pub linked_calls_kept_inside : LinkedCallsKeptInside
   pub linked_batch_is_the_programs : LinkedBatchIsThePrograms
+  pub linked_document_ends_at_margin : LinkedDocumentEndsAtMargin
+  pub linked_margin_over_calls : LinkedMarginOverCalls
 
 pub record Claims : Type 0 where
   pub demands : TheDemands

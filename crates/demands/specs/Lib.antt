@@ -7,5 +7,6 @@ pub mod Saves
 pub mod Archive
 pub mod ReadsBack
 pub mod Linked
+pub mod Margin
 pub mod Text
 pub mod Claims

@@ -12,3 +12,11 @@ mod Start
 mod Answered
 pub mod HandedOn
 pub mod AtBound
+pub mod EachStop
+pub mod MarginPens
+pub mod MarginEntry
+pub mod MarginRows
+pub mod MarginDone
+pub mod MarginBehind
+pub mod MarginCalls
+pub mod MarginOver

@@ -39,7 +39,7 @@ use Rattle.stop_facts.proofs.Turns.{Runs}
 
 -- ---- the rows that 23 lets pass, as open rows
 -- the listed rows are those around the next, from the row on that is read from
-those_same : (v : View) (ls : List OpenRow) (n : ℕ) → listed_those v ls n ≡ true → same_rows ls (around v (reads_from ls n) n) ≡ true
+pub those_same : (v : View) (ls : List OpenRow) (n : ℕ) → listed_those v ls n ≡ true → same_rows ls (around v (reads_from ls n) n) ≡ true
 unfolding same_rows enclosing
 those_same v [] n e = rw (around_none v n) refl
 those_same v (l ∷ ls) n e = go (ltb l.row n) refl
