@@ -1,6 +1,6 @@
 /* The first worked example of docs/01-scope.md, formatted; then an image of a version that there is not, which is refused, and one of version 2,
    which is refused by supplied widths; then the example moved to version 2 and back; then an archived image with a later comment first; then a
-   generator's trees, one of which would be read back differently; then the columns of a text by each rule of widths. */
+   generator's trees, one of which would be read back differently; then all formulas of size 3; then the columns of a text by each rule of widths. */
 #include <stdio.h>
 #include <string.h>
 #include "rrufthim.h"
@@ -136,6 +136,22 @@ static void read_back(void)
     built(grouped, sizeof grouped);
 }
 
+/* All formulas of three records, and a place too many. */
+static void formulas(void)
+{
+    uint8_t image[350];
+    uint64_t place, out[RRUFTHIM_FORMULA_OUT];
+
+    for (place = 0; place <= 6; place++) {
+        rrufthim_formula(3, place, image, sizeof image, out);
+        if (out[0] != 0) {
+            printf("formula %lu: refused %lu at %lu\n", (unsigned long)place, (unsigned long)out[0], (unsigned long)out[1]);
+        } else {
+            format(image, (size_t)out[1]);
+        }
+    }
+}
+
 /* Two characters of three bytes and two columns each, and of rules one too many. */
 static void columns(void)
 {
@@ -168,6 +184,7 @@ int main(void)
     moves();
     order();
     read_back();
+    formulas();
     columns();
     return 0;
 }

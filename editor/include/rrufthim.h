@@ -75,6 +75,7 @@ typedef char rrufthim_lengths_have_64_bits[sizeof(size_t) == 8 ? 1 : -1];
 #define RRUFTHIM_NO_ALLOTMENT 22    /* no row may be entered: 0 */
 #define RRUFTHIM_BAD_LISTED_ROWS 23 /* the listed rows aren't those that enclose the next row, or are over 256, or closing them would take the
                                        indent under 0: 0 */
+#define RRUFTHIM_NO_FORMULA 24      /* the size of a formula is outside 1 to 7, or its place isn't under the number of those: 0 */
 
 /* Limits: past them a file is refused. A text may be longer than a source: such a text can't be formatted again. */
 #define RRUFTHIM_MAX_SOURCE 65536    /* bytes of a source */
@@ -97,6 +98,7 @@ typedef char rrufthim_lengths_have_64_bits[sizeof(size_t) == 8 ? 1 : -1];
 #define RRUFTHIM_MAX_BATCH 256       /* files of a batch */
 #define RRUFTHIM_MAX_LISTED_ROWS 256 /* rows that a rendering state lists */
 #define RRUFTHIM_ALL_ROWS UINT64_MAX /* the largest allotment: as many rows as there are */
+#define RRUFTHIM_MAX_FORMULA_SIZE 7  /* expression records of a formula */
 
 /* Sizes. */
 #define RRUFTHIM_ROW 9               /* numbers of the store that a row takes; store_len / 9 rows, rounded down */
@@ -122,6 +124,7 @@ typedef char rrufthim_lengths_have_64_bits[sizeof(size_t) == 8 ? 1 : -1];
 #define RRUFTHIM_FORWARD_OUT 2
 #define RRUFTHIM_BACK_OUT 2
 #define RRUFTHIM_READS_BACK_OUT 3
+#define RRUFTHIM_FORMULA_OUT 2
 
 /*
  * A row that a rendering state lists, as a number: RRUFTHIM_LISTED_ROW(row, way, wraps), with its place in the store, the way that a call of a
@@ -146,8 +149,8 @@ typedef char rrufthim_lengths_have_64_bits[sizeof(size_t) == 8 ? 1 : -1];
  * the major is 0, the minor is raised for both. Another shape is always another version too.
  */
 #define RRUFTHIM_SHAPE 3
-#define RRUFTHIM_VERSION "0.7"
-#define RRUFTHIM_VERSION_NUMBER 7
+#define RRUFTHIM_VERSION "0.8"
+#define RRUFTHIM_VERSION_NUMBER 8
 
 #define RRUFTHIM_JOIN_AS_IT_IS(name, number) name##number
 #define RRUFTHIM_JOIN(name, number) RRUFTHIM_JOIN_AS_IT_IS(name, number)
@@ -166,6 +169,7 @@ typedef char rrufthim_lengths_have_64_bits[sizeof(size_t) == 8 ? 1 : -1];
 #define rrufthim_forward RRUFTHIM_SYMBOL(forward)
 #define rrufthim_back RRUFTHIM_SYMBOL(back)
 #define rrufthim_reads_back RRUFTHIM_SYMBOL(reads_back)
+#define rrufthim_formula RRUFTHIM_SYMBOL(formula)
 
 /*
  * Whether a source and its tree image, of either version, are accepted. Refusals 1 to 7.
@@ -396,6 +400,22 @@ void rrufthim_reads_back(
     const uint8_t *source, size_t source_len,
     const uint8_t *image, size_t image_len,
     uint64_t out[RRUFTHIM_READS_BACK_OUT]);
+
+/*
+ * For tests: writes the image, of version 1, of the formula at a place, from 0, of those of a size. The formulas of a size are all expressions
+ * from the path a (56), negation (64), parentheses (70) and the operators + and * (63) with so many records of these kinds, each once, as the
+ * value of const c: u32; every span is 0, 0, so that the image goes with every source. In order: by kind number, operator place, size of the left
+ * operand, then the left, then the right or only operand in this same order. Of sizes 1 to 7 there are 1, 2, 6, 20, 72, 272 and 1,064.
+ * Refusals 24, 17; each leaves the output as it was.
+ *
+ * output: is written from its start on; 350 bytes are enough for each.
+ * out:    [0] 0, [1] bytes of the image.
+ */
+void rrufthim_formula(
+    uint64_t size,
+    uint64_t place,
+    uint8_t *output, size_t output_len,
+    uint64_t out[RRUFTHIM_FORMULA_OUT]);
 
 #ifdef __cplusplus
 }

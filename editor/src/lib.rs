@@ -31,7 +31,8 @@
 //!   an image. [`encode`] gives that of a tree, [`encode_written`] that of
 //!   what a plug writes, and a [`generator`] builds one from steps. An
 //!   [`archive`] may keep them without widths. [`reads_back`] says of a tree
-//!   that no parser gave whether its text would be read as this tree.
+//!   that no parser gave whether its text would be read as this tree, and
+//!   [`formulas`] gives all small formulas, to try things on.
 //! - **The proved functions themselves** are [`calls`], over slices that the
 //!   caller lends: any arguments that safe Rust can give them end in an
 //!   answer or a [`Refusal`]. [`figures`] counts files.
@@ -60,6 +61,7 @@ mod file;
 mod fmt;
 mod formatted;
 mod formatter;
+mod formulas;
 pub mod generator;
 mod image;
 mod in_parts;
@@ -86,6 +88,7 @@ pub use file::File;
 pub use fmt::{fmt_parsed, fmt_written};
 pub use formatted::{CommentsLeft, Formatted};
 pub use formatter::Formatter;
+pub use formulas::{Formulas, formulas};
 pub use image::Version;
 pub use in_parts::InParts;
 pub use linked::SHAPE;

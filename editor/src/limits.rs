@@ -48,3 +48,6 @@ pub const MAX_LISTED_ROWS: usize = 256;
 
 /// The largest allotment: as many rows as there are.
 pub const ALL_ROWS: usize = usize::MAX;
+
+/// The largest size of a [formula](crate::formulas), in expression records.
+pub const MAX_FORMULA_SIZE: usize = 7;

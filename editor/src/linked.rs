@@ -204,6 +204,10 @@ linked! {
     /// place.
     fn reads_back(source: &[u8], image: &[u8], out: &mut [u64; 3]);
 
+    /// The image of the formula at a place of those of a size. `out`: 0, bytes
+    /// written; or number, place.
+    fn formula(size: u64, place: u64, output: &mut [u8], out: &mut [u64; 2]);
+
     /// The columns of a text by a rule; by 1 they are `supplied`. `out`: 0,
     /// columns; or number, place.
     fn columns(text: &[u8], rule: u64, supplied: u64, out: &mut [u64; 2]);

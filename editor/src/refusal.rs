@@ -1,4 +1,4 @@
-//! Why a call is turned down: the table of docs/01-scope.md, and 14 to 23 of
+//! Why a call is turned down: the table of docs/01-scope.md, and 14 to 24 of
 //! docs/02-change-requests.md.
 
 use std::{error::Error, fmt};
@@ -163,6 +163,8 @@ refusals! {
     22 NoAllotment "no row may be entered";
     23 BadListedRows "the listed rows aren't those that enclose the next row, \
         or are over 256, or closing them would take the indent under 0";
+    24 NoFormula "the size of a formula is outside 1 to 7, or its place isn't \
+        under the number of those";
 }
 
 impl Refusal {

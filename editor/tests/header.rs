@@ -17,7 +17,7 @@ use rrufthim::{
 #[test]
 fn all_say_the_same() {
     let exported = exported(&exports());
-    assert_eq!(exported.len(), 14);
+    assert_eq!(exported.len(), 15);
     assert_eq!(linked(LINKED), exported);
     assert_eq!(declared(HEADER), exported);
     let check = format!("rrufthim_check_s{SHAPE}");
@@ -82,6 +82,11 @@ fn a_difference_is_found() {
         ("_FORWARD_OUT 2", "_FORWARD_OUT 3"),
         ("_BACK_OUT 2", "_BACK_OUT 3"),
         ("_READS_BACK_OUT 3", "_READS_BACK_OUT 2"),
+        ("_FORMULA_OUT 2", "_FORMULA_OUT 3"),
+        (
+            "uint64_t size,\n    uint64_t place",
+            "uint64_t size,\n    uint32_t place",
+        ),
         (
             "uint64_t rule,\n    uint64_t supplied",
             "uint64_t supplied,\n    uint64_t rule",
@@ -183,5 +188,6 @@ fn sizes_have_their_names() {
     ] {
         assert_eq!(value(name), way as usize);
     }
+    assert_eq!(value("RRUFTHIM_MAX_FORMULA_SIZE"), MAX_FORMULA_SIZE);
     assert_eq!(value("RRUFTHIM_TABLE_ROW"), TABLE_ROW);
 }

@@ -22,10 +22,10 @@ fn image() -> Vec<u8> {
 #[test]
 fn numbers_and_places_come_back() {
     let numbers = Refusal::TABLE.iter().map(|row| row.number);
-    assert!(numbers.eq(1..=23));
+    assert!(numbers.eq(1..=24));
     let without = Refusal::TABLE.iter().filter(|row| row.place.is_none());
     let without: Vec<_> = without.map(|row| row.number).collect();
-    assert_eq!(without, [1, 3, 12, 13, 14, 15, 20, 22, 23]);
+    assert_eq!(without, [1, 3, 12, 13, 14, 15, 20, 22, 23, 24]);
     for row in Refusal::TABLE {
         let place = if row.place.is_some() { 77 } else { 0 };
         let refusal = Refusal::from_numbers(row.number, 77);
@@ -46,7 +46,7 @@ fn each_has_a_sentence_of_its_own() {
         words
     });
     let sentences: HashSet<String> = sentences.collect();
-    assert_eq!(sentences.len(), 23);
+    assert_eq!(sentences.len(), 24);
     let output = Refusal::MoreOutput { needed: 77 };
     let due = "the output is too short (bytes needed: 77)";
     assert_eq!(output.to_string(), due);

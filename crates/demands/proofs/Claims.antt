@@ -9,6 +9,11 @@ use Rattle.moves.proofs.Exact.{twenty_one}
 use Rattle.demands.proofs.Archive.{archive_1}
 use Rattle.readback.proofs.Claimed.{verdict_holds}
 use Rattle.demands.proofs.ReadsBack.{reads_back_1}
+use Rattle.formulas.proofs.Once.{exactly_once}
+use Rattle.formulas.proofs.Counts.{counts}
+use Rattle.formulas.proofs.Places.{exchanged}
+use Rattle.formula_images.proofs.Claimed.{all_accepted, one_image}
+use Rattle.demands.proofs.Formulas.{formulas_1}
 use Rattle.renderer_rules.proofs.Call.{call_as_rust}
 use Rattle.renderer_rules.proofs.Drift.{never_drifts, ends_at_margin}
 use Rattle.listed_rows.proofs.Numbers.{numbers_rows}
@@ -135,6 +140,12 @@ claims = record {
     calls_keep = calls_keep;
     kept_over_calls = kept_over_calls;
     margin_over_calls = margin_over_calls;
+    each_once = exactly_once;
+    counted = counts;
+    places_exchanged = exchanged;
+    all_accepted = all_accepted;
+    one_image = one_image;
+    formulas_1 = formulas_1;
   };
   linked = record {
     linked_promises = linked_promises;

@@ -8,6 +8,7 @@ pub mod Generator
 pub mod Saves
 pub mod Archive
 pub mod ReadsBack
+pub mod Formulas
 pub mod Linked
 pub mod LinkedCalls
 pub mod Margin

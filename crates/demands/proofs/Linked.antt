@@ -75,6 +75,9 @@ use Rattle.demands.proofs.Generator.{write_under, list_under, generator_lists}
 use Rattle.demands.proofs.Saves.{batch_under}
 use Rattle.moves.specs.Moves.{forward_image, back_image, forward_refusal, back_refusal}
 use Rattle.demands.specs.Archive.{move_numbers}
+use Rattle.formula_images.specs.Images.{formula_image, formula_refusal}
+use Rattle.demands.specs.Formulas.{formula_numbers}
+use Rattle.demands.proofs.Formulas.{formula_under}
 use Rattle.demands.proofs.Archive.{forward_under, back_under}
 use Rattle.demands.proofs.ReadsBack.{verdict_read, verdict_answer}
 
@@ -498,6 +501,17 @@ linked_promises = record {
       (verdict_reads v)
       (verdict_told s b out out2 e)
       ∙ sym (verdict_answer b x);
+  formula =
+      λ size place output out output2 out2 h p.
+      let o = formula_refusal size place (length output) in (
+        read_back (answer_of (λ (n : ℕ). n)) wrote_from told_bytes formula_numbers o (length (formula_image size place)) out out2 refl refl
+            (formula_under size place (length output))
+            (omega arith)
+            (omega arith)
+            (wrote_reads (length (formula_image size place)))
+            p.1,
+        p.0,
+      );
 }
 
 -- ---- demand 1
@@ -589,6 +603,14 @@ linked_1 = record {
       let size = verdict_size v in
       told_first told_verdict reader_numbers (read_refusal x) v out out2 _ (read_under s b) (omega arith) (omega (arith, size)) (λ r f. tt)
       (verdict_told s b out out2 e);
+  formula =
+      λ size place output out output2 out2 h p.
+      told_first told_bytes formula_numbers (formula_refusal size place (length output)) (length (formula_image size place)) out out2 _
+      (formula_under size place (length output))
+      (omega arith)
+      (omega arith)
+      (λ r f. p.0 ∙ left_same _ r output _ f)
+      p.1;
 }
 
 -- ---- demand 2: where 0 is first, the answer is the accepted one

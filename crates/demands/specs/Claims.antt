@@ -15,6 +15,10 @@ use Rattle.moves.specs.Exact.{TwentyOne}
 use Rattle.demands.specs.Archive.{Archive1}
 use Rattle.readback.specs.ReadsBack.{VerdictHolds}
 use Rattle.demands.specs.ReadsBack.{ReadsBack1}
+use Rattle.formulas.specs.Once.{EachOnce, Counted}
+use Rattle.formulas.specs.Places.{Exchanged}
+use Rattle.formula_images.specs.Claims.{AllAccepted, OneImage}
+use Rattle.demands.specs.Formulas.{Formulas1}
 use Rattle.renderer_rules.specs.Check.{FaultOfPart}
 use Rattle.renderer_rules.specs.Holds.{WritesPieces, NoSlashAround}
 use Rattle.layout_facts.specs.Accepted.{FewRows, WordsDue}
@@ -174,6 +178,14 @@ pub record TheRequests : Type 0 where
   pub calls_keep : CallsKeep
   pub kept_over_calls : KeptOverCalls
   pub margin_over_calls : MarginOverCalls
+  -- 14: "each expression appears exactly once", in the order of the list; "There are 1, 2, 6, 20 and 72 for sizes 1 to 5"; "Given a size and a place,
+  -- from 0, the image is written": it is accepted with every source that 1 and 2 let pass and says the formula alone, and two places give two images
+  pub each_once : EachOnce
+  pub counted : Counted
+  pub places_exchanged : (n : ℕ) → Exchanged n
+  pub all_accepted : AllAccepted
+  pub one_image : OneImage
+  pub formulas_1 : Formulas1
 
 -- all of it of the functions that other languages link
 pub record TheLinked : Type 0 where

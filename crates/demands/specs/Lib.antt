@@ -6,6 +6,7 @@ pub mod Generator
 pub mod Saves
 pub mod Archive
 pub mod ReadsBack
+pub mod Formulas
 pub mod Linked
 pub mod Margin
 pub mod Text

@@ -1,8 +1,8 @@
--- The functions that other languages link, `rrufthim_check`, `rrufthim_layout`, `rrufthim_render`, `rrufthim_format`, `rrufthim_count`,
--- `rrufthim_write`, `rrufthim_steps`, `rrufthim_batch`, `rrufthim_columns`, `rrufthim_forward`, `rrufthim_back`, `rrufthim_reads_back` and
--- `rrufthim_layout_archived`, which `archive` tells from `rrufthim_layout`. Their answers and states are arrays of so many numbers. What the
--- numbers of an answer tell is an answer of the function in Rattle, and that function's promise holds of it (`LinkedPromises`). So the three
--- demands and the sentences of requests 4, 5, 7 and 11 hold of what is linked. proofs/Linked.antt proves it.
+-- The functions that other languages link, `rrufthim_check`, `rrufthim_layout`, `rrufthim_render`, `rrufthim_format`, `rrufthim_count`, `rrufthim_write`,
+-- `rrufthim_steps`, `rrufthim_batch`, `rrufthim_columns`, `rrufthim_forward`, `rrufthim_back`, `rrufthim_reads_back`, `rrufthim_formula` and
+-- `rrufthim_layout_archived`, which `archive` tells from `rrufthim_layout`. Their answers and states are arrays of so many numbers. What the numbers of an
+-- answer tell is an answer of the function in Rattle, and that function's promise holds of it (`LinkedPromises`). So the three demands and the sentences of
+-- requests 4, 5, 7 and 11 hold of what is linked. proofs/Linked.antt proves it.
 use Rattle.std.specs.Prelude.{◌≡◌, Bool, true, false, cond, List, [], ◌∷◌, ◌++◌, map, ℕ, ◌≤◌, eqb, length, get_or, take, drop, replicate, Option}
 use Rattle.std.specs.Prelude.{None, Some, Result, Ok, Err}
 use Rattle.refusals.specs.Refusals.{Refusal, is_one_of}
@@ -51,6 +51,9 @@ use Rattle.exports.specs.Saves.{FormatsBatch}
 use Rattle.exports.specs.Measures.{MeasuresText}
 use Rattle.exports.specs.Archive as archive
 use Rattle.exports.specs.Verdict.{SaysVerdict}
+use Rattle.exports.specs.Formulas.{PutsFormula}
+use Rattle.formula_images.specs.Images.{formula_refusal, WritesFormula}
+use Rattle.demands.specs.Formulas.{formula_numbers}
 use Rattle.moves.specs.Moves.{forward_refusal, back_refusal}
 use Rattle.moves.specs.Moved.{MovesForward, MovesBack}
 use Rattle.readback.specs.ReadsBack.{ReadsBack}
@@ -94,7 +97,8 @@ reason_of n =
     (cond (eqb n 20) reason.Rule
     (cond (eqb n 21) reason.StoredWidth
     (cond (eqb n 22) reason.Allotment
-    reason.Listed)))))))))))))))))))))
+    (cond (eqb n 23) reason.Listed
+    reason.Formula))))))))))))))))))))))
 
 -- an answer, by what it tells where it begins with 0
 abbrev pub answer_from : {A : Type 0} → A → List ℕ → Result A Refused
@@ -166,6 +170,8 @@ pub record LinkedPromises : Type 0 where
       → MovesBack s b output (wrote_from out2) output2
   pub reads_back : (s b out out2 : List ℕ) → length out ≡ 3 → SaysVerdict s b out out2
       → ReadsBack s b (verdict_from out2)
+  pub formula : (size place : ℕ) (output out output2 out2 : List ℕ) → length out ≡ 2 → PutsFormula size place output out output2 out2
+      → WritesFormula size place output (wrote_from out2) output2
 
 -- ---- demand 1
 -- the columns of a text: 20 alone
@@ -214,6 +220,8 @@ pub record Linked1 : Type 0 where
       → Told move_numbers (back_refusal s b (length output)) out2 (output2 ≡ output)
   pub reads_back : (s b out out2 : List ℕ) → length out ≡ 3 → SaysVerdict s b out out2
       → Told reader_numbers (read_refusal (read_all s b)) out2 (Unit {0})
+  pub formula : (size place : ℕ) (output out output2 out2 : List ℕ) → length out ≡ 2 → PutsFormula size place output out output2 out2
+      → Told formula_numbers (formula_refusal size place (length output)) out2 (output2 ≡ output)
 
 -- ---- demand 2
 -- "Fresh is all 0"

@@ -6,3 +6,4 @@ pub mod Saves
 pub mod Measures
 pub mod Archive
 pub mod Verdict
+pub mod Formulas

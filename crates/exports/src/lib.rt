@@ -5,6 +5,7 @@
 #![tactic(auto)]
 
 pub mod archive;
+pub mod formula;
 pub mod generator;
 pub mod measures;
 mod numbers;

@@ -13,6 +13,7 @@ ghost use Rattle.exports.specs.Saves.{FormatsBatch};
 ghost use Rattle.exports.specs.Measures.{MeasuresText};
 ghost use Rattle.exports.specs.Archive.{MovesForward, MovesBack};
 ghost use Rattle.exports.specs.Verdict.{SaysVerdict};
+ghost use Rattle.exports.specs.Formulas.{PutsFormula};
 
 #[unsafe(no_mangle)]
 pub extern "C" fn rrufthim_check_s3(source: &[u8], image: &[u8], out: &mut [u64; 4])
@@ -165,4 +166,11 @@ pub extern "C" fn rrufthim_reads_back_s3(source: &[u8], image: &[u8], out: &mut 
     ensures { SaysVerdict source.now image.now out.old out.new }
 {
     exports::verdict::rrufthim_reads_back_s3(source, image, out);
+}
+
+#[unsafe(no_mangle)]
+pub extern "C" fn rrufthim_formula_s3(size: u64, place: u64, output: &mut [u8], out: &mut [u64; 2])
+    ensures { PutsFormula size place output.old out.old output.new out.new }
+{
+    exports::formula::rrufthim_formula_s3(size, place, output, out);
 }

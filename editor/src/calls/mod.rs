@@ -91,6 +91,24 @@ pub fn reads_back(file: File<'_>) -> Result<Verdict, Refusal> {
     })
 }
 
+/// Writes the image, of version 1, of the formula at a place of those of a size
+/// into the output, from its start on, and says how many bytes it has.
+/// [`formulas`](crate::formulas()) gives them one after the other.
+///
+/// # Errors
+///
+/// Refusals 24, 17, each of which leaves the output as it was.
+pub fn formula(
+    size: usize,
+    place: usize,
+    output: &mut [u8],
+) -> Result<usize, Refusal> {
+    let ([size, place], mut out) = (numbers([size, place]), [0; 2]);
+    linked::formula(size, place, output, &mut out);
+    let [number, bytes] = sizes(out);
+    refused(number, bytes).map(|()| bytes)
+}
+
 /// Lays out the declarations up to the one to stop before, and closes if it
 /// is told to. All calls of a run choose the same of comments and widths: by
 /// an edition of Unicode names get their columns here.

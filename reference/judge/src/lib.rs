@@ -29,6 +29,7 @@ pub mod contents;
 pub mod examples;
 pub mod explain;
 pub mod figures;
+pub mod formulas;
 pub mod frame;
 pub mod generate;
 pub mod grammar;

@@ -40,6 +40,8 @@ usage: judge run [--true-widths] < frame      what the program must write
        judge replay-moves-counts              what is due for them
        judge replay-verdicts                  trees, whether they are read back the same
        judge replay-verdicts-counts           what is due for them
+       judge replay-formulas                  sizes and places of formulas
+       judge replay-formulas-counts           what is due for them
        judge replay-batches                   the batches
        judge replay-batches-counts            what it must write of them
        judge text-answers                     answers of Rust's text functions
@@ -132,6 +134,8 @@ fn command(words: &[&str]) -> Result<Pieces, String> {
         ["replay-moves-counts"] => one(answers::replay::moves_output()),
         ["replay-verdicts"] => one(answers::replay::verdicts_input()),
         ["replay-verdicts-counts"] => one(answers::replay::verdicts_output()),
+        ["replay-formulas"] => one(answers::replay::formulas_input()),
+        ["replay-formulas-counts"] => one(answers::replay::formulas_output()),
         ["replay-batches"] => one(answers::replay::batches_input()),
         ["replay-batches-counts"] => one(answers::replay::batches_output()),
         ["text-answers"] => one(answers::text::answers()),

@@ -6,7 +6,7 @@ use judge::{
     calls::Call,
     choice::Choice,
     driver::Run,
-    examples, explain,
+    examples, explain, formulas,
     generate::{self, Class},
     program::{self, Widths},
     reads_back::{Verdict, reads_back},
@@ -259,6 +259,31 @@ fn step_answers_are_laid_out_as_described() {
         }
     }
     assert!(written >= 20 && refused >= 90, "{written} and {refused}");
+}
+
+#[test]
+fn formulas_are_laid_out_as_described() {
+    let file = answers::replay::formulas_input();
+    let mut input = Input(&file);
+    let [mut images, mut refused] = [0; 2];
+    while !input.0.is_empty() {
+        let [size, place] = [(); 2].map(|()| input.number(8));
+        let number = input.number(2);
+        let told = input.number(4);
+        match formulas::write(size, place, usize::MAX) {
+            Ok(image) => {
+                images += 1;
+                assert_eq!((number, told), (0, image.len()));
+                assert_eq!(input.bytes(told), image);
+            }
+            Err(refusal) => {
+                refused += 1;
+                let due = (refusal.number.into(), refusal.place as usize);
+                assert_eq!((number, told), due);
+            }
+        }
+    }
+    assert!(images > 250 && refused > 30, "{images} {refused}");
 }
 
 #[test]

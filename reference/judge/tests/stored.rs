@@ -319,6 +319,15 @@ fn verdicts_take_about_a_hundred_kilobytes() {
     assert_eq!(pairs.count(), 2 * 14 * 14);
 }
 
+/// Images of all sizes, and what is refused.
+#[test]
+fn formulas_take_about_eighty_kilobytes() {
+    let bytes = replay::formulas_input().len();
+    assert!((70_000..90_000).contains(&bytes), "{bytes}");
+    let refused = "formulas refused with 24: ";
+    assert!(replay::formulas_output().contains(refused));
+}
+
 #[test]
 fn batches_take_less_than_eighty_kilobytes() {
     let bytes = replay::batches_input().len();
@@ -338,6 +347,10 @@ fn the_replay_has_these_answers() {
     assert!(read("replay_calls/data/verdicts") == verdicts);
     assert!(read("replay_files/data/frames") == replay::frames_input());
     assert!(read("replay_files/data/batches") == replay::batches_input());
+    let formulas = replay::formulas_input();
+    assert!(read("replay_formulas/data/formulas") == formulas);
+    let formulas = replay::formulas_output().into_bytes();
+    assert!(read("replay_formulas/stdout") == formulas);
     let calls = [
         replay::calls_output(),
         replay::steps_output(),

@@ -7,6 +7,8 @@ mod columns;
 pub mod compare;
 #[cfg(feature = "calls")]
 mod figures;
+#[cfg(feature = "calls")]
+mod formulas;
 pub mod measure;
 #[cfg(feature = "calls")]
 mod moves;
@@ -27,6 +29,8 @@ pub use batch::{Batched, batch};
 pub use columns::columns;
 #[cfg(feature = "calls")]
 pub use figures::count;
+#[cfg(feature = "calls")]
+pub use formulas::formula;
 use judge::refusal::Refusal;
 #[cfg(feature = "calls")]
 pub use moves::moved;
@@ -125,7 +129,7 @@ impl<const N: usize> Out<N> {
         }
         match out {
             [0, rest @ ..] => Ok(rest),
-            [number @ 1..=23, place, ..] => Err(Refusal {
+            [number @ 1..=24, place, ..] => Err(Refusal {
                 number: *number as u8,
                 place: *place,
             }),

@@ -3,7 +3,7 @@
 
 #[cfg(feature = "stand-in")]
 pub use crate::stand_in::{
-    back, batch, check, columns, count, format, forward, layout,
+    back, batch, check, columns, count, format, formula, forward, layout,
     layout_archived, newlines, reads_back, render, steps, write,
 };
 
@@ -11,8 +11,8 @@ pub use crate::stand_in::{
 pub use linked::check;
 #[cfg(all(feature = "calls", not(feature = "stand-in")))]
 pub use linked::{
-    back, batch, columns, count, format, forward, layout, layout_archived,
-    newlines, reads_back, render, steps, write,
+    back, batch, columns, count, format, formula, forward, layout,
+    layout_archived, newlines, reads_back, render, steps, write,
 };
 
 /// Those of the editor's crate, which its tests hold to the library.

@@ -3,6 +3,7 @@
 
 mod allotments;
 mod batch;
+mod formulas;
 mod moves;
 mod orders;
 mod rules;
@@ -13,6 +14,7 @@ mod words;
 use std::sync::atomic::{AtomicU8, Ordering};
 
 pub use batch::batch;
+pub use formulas::formula;
 use judge::{
     allotment::ALL_ROWS,
     calls::{
@@ -449,10 +451,38 @@ pub enum Fault {
     PastListed,
     /// The rows entered are counted from the first.
     EnteredOfAll,
+    /// Times comes before plus.
+    TimesFirst,
+    /// Parentheses come before negation.
+    ParenthesesFirst,
+    /// The larger left operand comes first.
+    LargerFirst,
+    /// The formula before the last comes twice, and the last never.
+    LastFormulaTwice,
+    /// The image of a formula is of version 2.
+    FormulaOfTwo,
+    /// Its first text has the width 0.
+    NoWidth,
+    /// A place at the count gives the last formula.
+    PlaceAtCount,
+    /// 24 names the place.
+    PlaceRefused,
+    /// Size 0 is taken for 1.
+    SizeNone,
+    /// A size is looked at in its lower four bytes.
+    SizeInFourBytes,
+    /// 17 comes before 24.
+    FormulaRoomFirst,
+    /// The bytes that a formula's image needs are one too many.
+    FormulaNeeded,
+    /// Its output is written before 17.
+    FormulaBeforeRefusal,
+    /// A byte past its image is written.
+    PastFormula,
 }
 
 impl Fault {
-    pub const ALL: [Fault; 202] = [
+    pub const ALL: [Fault; 216] = [
         Fault::CheckPlace,
         Fault::Declarations,
         Fault::CommentsLeft,
@@ -655,6 +685,20 @@ impl Fault {
         Fault::OldBounds,
         Fault::PastListed,
         Fault::EnteredOfAll,
+        Fault::TimesFirst,
+        Fault::ParenthesesFirst,
+        Fault::LargerFirst,
+        Fault::LastFormulaTwice,
+        Fault::FormulaOfTwo,
+        Fault::NoWidth,
+        Fault::PlaceAtCount,
+        Fault::PlaceRefused,
+        Fault::SizeNone,
+        Fault::SizeInFourBytes,
+        Fault::FormulaRoomFirst,
+        Fault::FormulaNeeded,
+        Fault::FormulaBeforeRefusal,
+        Fault::PastFormula,
     ];
 }
 

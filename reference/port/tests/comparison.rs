@@ -100,6 +100,9 @@ fn items(fault: Fault) -> Vec<Item> {
         // What other faults there are shows elsewhere, and sooner.
         items.retain(|item| !is_of_allotments(item));
     }
+    if fault as u8 >= Fault::TimesFirst as u8 {
+        items.sort_by_key(|item| !matches!(item, Item::Formula(_)));
+    }
     items
 }
 
@@ -246,6 +249,7 @@ fn verdicts_are_repeated_by_their_names() {
         Item::from_words("any-verdict", 4),
         Some(Item::AnyVerdict(4))
     );
+    assert_eq!(Item::from_words("formula", 5), Some(Item::Formula(5)));
     assert_eq!(Item::from_words("allotted", 1), Some(Item::Allotted(1)));
     assert_eq!(
         Item::from_words("allotment-list", 2),

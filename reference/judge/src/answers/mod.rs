@@ -3,6 +3,7 @@
 
 pub mod batches;
 pub mod calls;
+pub mod formulas;
 pub mod frames;
 pub mod moves;
 pub mod replay;

@@ -3,11 +3,14 @@
 
 use std::{collections::BTreeMap, fmt::Write};
 
-use super::{batches, calls, frames, moves, steps, stored, verdicts};
+use super::{
+    batches, calls, formulas, frames, moves, steps, stored, verdicts,
+};
 use crate::{
     batch::{self, ROW},
     calls::{self as layout_and_rendering, Call, Given},
     driver::Run,
+    formulas as small,
     generate::{self, CallCase},
     moves::moved,
     program::{self, Widths},
@@ -103,6 +106,26 @@ pub fn verdicts_output() -> String {
     put_numbers(&mut out, "verdicts", &numbers);
     put_numbers(&mut out, "verdicts of no", &no);
     put_end(&mut out, "verdicts", numbers.values().sum());
+    out
+}
+
+/// The sizes and places of formulas with their answers.
+pub fn formulas_input() -> Vec<u8> {
+    stored::formulas().flat_map(formulas::answered).collect()
+}
+
+/// How often each answer to a size and a place is given, and that none
+/// differs.
+pub fn formulas_output() -> String {
+    let mut out = String::new();
+    let mut numbers = Numbers::new();
+    for (size, place) in stored::formulas() {
+        let answer = small::write(size, place, usize::MAX);
+        let number = answer.err().map_or(0, |refusal| refusal.number);
+        *numbers.entry(number).or_default() += 1;
+    }
+    put_numbers(&mut out, "formulas", &numbers);
+    put_end(&mut out, "formulas", numbers.values().sum());
     out
 }
 

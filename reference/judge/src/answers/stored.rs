@@ -1,11 +1,13 @@
 //! The fixed sets of frames, lists of calls, lists of steps, images to move,
-//! trees and batches that a port's own tests keep.
+//! trees, formulas and batches that a port's own tests keep.
 
 use std::collections::{BTreeMap, BTreeSet};
 
 use super::{batches, calls, moves, verdicts as trees};
 use crate::{
-    examples, frame,
+    examples,
+    formulas::{COUNTS, MOST},
+    frame,
     generate::{self, BatchCase, CallCase, Class, MoveCase, OperatorCase},
     listed::{Listed, MOST_LISTED},
     moves::{Way, moved},
@@ -87,6 +89,10 @@ pub const TREES: (u64, u64, usize) = (1, 2_000, 700);
 /// The most trees of operators that are kept for a refusal, and for each rule
 /// that is broken first, and for none.
 pub const TREES_EACH: [usize; 2] = [3, 6];
+
+/// Of sizes under this all formulas are stored, of the others each seventh.
+pub const FEW: usize = 6;
+const EACH: usize = 7;
 
 pub fn frames() -> impl Iterator<Item = Vec<u8>> {
     let worked = WORKED.map(|name| examples::frame(name).expect("known"));
@@ -177,4 +183,18 @@ pub fn verdicts() -> Vec<OperatorCase> {
         }
     }
     stored
+}
+
+/// Sizes and places of formulas: each size's first places, its last, the count
+/// and further on; and sizes that there are not.
+pub fn formulas() -> impl Iterator<Item = (usize, usize)> {
+    let there = (1..=MOST).zip(COUNTS).flat_map(|(size, count)| {
+        let step = if size < FEW { 1 } else { EACH };
+        let past = [count - 1, count, count + 1, usize::MAX];
+        let places = (0..count - 1).step_by(step).chain(past);
+        places.map(move |place| (size, place))
+    });
+    let no_sizes = [0, MOST + 1, 1 << 32, usize::MAX];
+    let none = no_sizes.map(|size| [0, 1, usize::MAX].map(|at| (size, at)));
+    there.chain(none.into_iter().flatten())
 }

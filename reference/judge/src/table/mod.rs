@@ -1,6 +1,7 @@
 //! How often generated frames reach each case of document 01.
 
 mod batches;
+mod formulas;
 mod moves;
 mod report;
 mod step_lists;
@@ -20,6 +21,7 @@ use crate::{
 };
 
 use batches::BatchCounts;
+use formulas::FormulaCounts;
 use moves::MoveCounts;
 use step_lists::StepCounts;
 use verdicts::VerdictCounts;
@@ -122,11 +124,14 @@ pub fn stored() -> String {
     writeln!(out, "- moves: {count}, {bytes} bytes").unwrap();
     let (verdicts, count, bytes) = VerdictCounts::stored();
     writeln!(out, "- verdicts: {count}, {bytes} bytes").unwrap();
+    let (formulas, count, bytes) = FormulaCounts::stored();
+    writeln!(out, "- formulas: {count}, {bytes} bytes").unwrap();
     out + &all.report()
         + &lists.report(true)
         + &batches.report(true)
         + &moves.report(true)
         + &verdicts.report(true)
+        + &formulas.report()
 }
 
 impl Counts {

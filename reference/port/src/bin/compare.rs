@@ -10,7 +10,7 @@ usage: compare SEED FRAMES [LISTS [FILES [STEPS [BATCHES [REPORTS [MOVES [TREES]
            and as many documents rendered up to every row, LISTS lists of calls of each sort, FILES files counted,
            STEPS images to steps and back, and as many lists of steps, BATCHES batches,
            REPORTS inputs of the program report, MOVES images forward to version 2 and back, and as many of version 2,
-           TREES trees of operators to be read back, and as many of all classes
+           TREES trees of operators to be read back, as many of all classes, and with them all small formulas
        compare KIND SEED INDEX
            one of them again; KIND as a difference names it
 ONLY=KIND,KIND compare SEED FRAMES ..

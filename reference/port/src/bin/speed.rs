@@ -6,7 +6,7 @@ use std::{env, fs, process::ExitCode};
 use judge::reader;
 use port::measure::{self, Line, both, inputs};
 #[cfg(feature = "calls")]
-use port::measure::{batches, documents, moves, pieces, steps, verdicts};
+use port::measure::{batches, documents, formulas, moves, pieces, steps, verdicts};
 
 fn main() -> ExitCode {
     let paths: Vec<String> = env::args().skip(1).collect();
@@ -28,6 +28,7 @@ fn main() -> ExitCode {
         lines.extend(moved.flat_map(|input| moves::of_files(&input)));
         let documents = documents::growing();
         lines.extend(documents.into_iter().map(steps::rendering));
+        lines.push(formulas::of_the_largest());
         lines.extend(by_rules());
     }
     print!("{}", measure::table(&lines));

@@ -10,6 +10,8 @@ mod buffers;
 mod cuts;
 #[cfg(feature = "calls")]
 mod files;
+#[cfg(feature = "calls")]
+mod formulas;
 mod frames;
 #[cfg(feature = "calls")]
 mod images;

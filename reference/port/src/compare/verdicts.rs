@@ -61,7 +61,7 @@ pub fn compare_any(tally: &mut Tally, seed: u64, index: u64) {
 }
 
 /// Both sides on an image; and the refusal is that of the port's own check.
-fn compare_one(
+pub(super) fn compare_one(
     tally: &mut Tally,
     heading: &str,
     source: &[u8],

@@ -115,6 +115,9 @@ pub enum Item {
     /// The tree of a file of any class.
     #[cfg(feature = "calls")]
     AnyVerdict(u64),
+    /// A size and a place of a formula.
+    #[cfg(feature = "calls")]
+    Formula(usize),
     /// A document to stop in everywhere.
     #[cfg(feature = "calls")]
     Allotted(u64),
@@ -142,7 +145,8 @@ pub enum Item {
 /// many images forward to version 2 and back, with as many that may be damaged,
 /// as many files and a fifth as many lists of calls on images of version 2, and
 /// a fixed list of images to move; and so many trees of operators to be read
-/// back, with as many of files of any class, and their fixed list.
+/// back, with as many of files of any class, and their fixed list and all small
+/// formulas.
 #[derive(Clone, Copy, Debug)]
 pub struct Plan {
     pub seed: u64,
@@ -237,7 +241,12 @@ impl Plan {
         let fixed = (0..fixed).map(Item::FixedVerdict);
         let trees = (0..self.trees).map(Item::Verdict);
         let any = (0..self.trees).map(Item::AnyVerdict);
-        fixed.chain(trees).chain(any)
+        let formulas = match self.trees {
+            0 => 0,
+            _ => super::formulas::CASES,
+        };
+        let formulas = (0..formulas).map(Item::Formula);
+        fixed.chain(trees).chain(any).chain(formulas)
     }
 
     #[cfg(feature = "calls")]
@@ -469,6 +478,8 @@ fn compare(tally: &mut Tally, item: Item, seed: u64) {
             super::verdicts::compare_any(tally, seed, index);
         }
         #[cfg(feature = "calls")]
+        Item::Formula(number) => super::formulas::compare(tally, number),
+        #[cfg(feature = "calls")]
         Item::Allotted(index) => {
             super::allotments::compare(tally, seed, index);
         }
@@ -580,6 +591,8 @@ fn name(item: Item, seed: u64) -> String {
         #[cfg(feature = "calls")]
         Item::AnyVerdict(index) => ("any-verdict", index),
         #[cfg(feature = "calls")]
+        Item::Formula(number) => ("formula", number as u64),
+        #[cfg(feature = "calls")]
         Item::Allotted(index) => ("allotted", index),
         #[cfg(feature = "calls")]
         Item::AllotmentList(index) => ("allotment-list", index),
@@ -656,6 +669,8 @@ impl Item {
             "fixed-verdict" => Some(Item::FixedVerdict(index as usize)),
             #[cfg(feature = "calls")]
             "any-verdict" => Some(Item::AnyVerdict(index)),
+            #[cfg(feature = "calls")]
+            "formula" => Some(Item::Formula(index as usize)),
             #[cfg(feature = "calls")]
             "allotted" => Some(Item::Allotted(index)),
             #[cfg(feature = "calls")]

@@ -4,6 +4,8 @@
 pub mod batches;
 #[cfg(feature = "calls")]
 pub mod documents;
+#[cfg(feature = "calls")]
+pub mod formulas;
 pub mod inputs;
 #[cfg(feature = "calls")]
 pub mod moves;

@@ -26,6 +26,7 @@ use super::saves;
 use super::{
     Line, batches, both,
     documents::{self, Document, Empty},
+    formulas,
     inputs::{File, Input},
     moves, stack, verdicts,
 };
@@ -424,6 +425,7 @@ pub fn stack() -> Vec<StackLine> {
     let deep =
         sizes.filter(|case| case.refusal == 0 && case.name.contains("deep"));
     lines.extend(deep.flat_map(stack_of_runs));
+    lines.push(formulas::stack_of());
     lines
 }
 
