@@ -20,6 +20,10 @@ const STORED: &str = include_str!("include/shape");
 fn main() {
     println!("cargo::rerun-if-env-changed={VARIABLE}");
     println!("cargo::rerun-if-changed=include/shape");
+    if !fits("ARCH", "x86_64") || !fits("OS", "linux") {
+        // Then the crate itself says that it is for x86-64 Linux.
+        return;
+    }
     let archive = archive();
     println!("cargo::rerun-if-changed={}", archive.display());
     let folder = PathBuf::from(env::var_os("OUT_DIR").expect("by cargo"));
@@ -36,9 +40,16 @@ fn main() {
     println!("cargo::rustc-link-lib=static=rrufthim");
 }
 
+/// Whether the machine that is built for is as the archive has it.
+fn fits(what: &str, due: &str) -> bool {
+    env::var(format!("CARGO_CFG_TARGET_{what}")).is_ok_and(|it| it == due)
+}
+
 /// Where the archive should be, as a path from this package's folder.
 fn archive() -> PathBuf {
-    let here = Path::new(env!("CARGO_MANIFEST_DIR"));
+    // As it runs, not as it was built: a package that is tried lies elsewhere.
+    let here = env::var_os("CARGO_MANIFEST_DIR").expect("by cargo");
+    let here = Path::new(&here);
     let named = env::var_os(VARIABLE).map(|path| here.join(path));
     match named {
         Some(archive) if archive.is_file() => archive,

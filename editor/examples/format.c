@@ -12,44 +12,60 @@ static const uint8_t IMAGE[] = {
     0, 0, 0, 0x0F, 2, 0, 0, 0, 0, 0, 0, 0, 0, 0, 4, '#', '!', '/', 'x',
 };
 
+/* Whether a call is refused, which is said with its place and in words. */
+static int is_refused(const uint64_t *out)
+{
+    uint64_t number = out[RRUFTHIM_OUT_REFUSAL];
+    const char *place = rrufthim_place_words(number);
+
+    if (number == 0) {
+        return 0;
+    }
+    printf("refused %lu at %lu: %s", (unsigned long)number, (unsigned long)out[RRUFTHIM_OUT_PLACE], rrufthim_words(number));
+    if (place != NULL) {
+        printf(" (the place is the %s)", place);
+    }
+    putchar('\n');
+    return 1;
+}
+
 /* Writes the text of a file without source, or why there is none. */
 static void format(const uint8_t *image, size_t image_len)
 {
-    static const uint8_t source[1] = {0};
     static const uint64_t choice[RRUFTHIM_FORMAT_CHOICE] = {RRUFTHIM_REFERENCE_WIDTH, RRUFTHIM_ALL_COMMENTS, RRUFTHIM_WIDTHS_SUPPLIED};
     uint8_t output[64];
     uint64_t out[RRUFTHIM_FORMAT_OUT];
 
-    rrufthim_format(source, 0, image, image_len, choice, output, sizeof output, out);
-    if (out[0] != 0) {
-        printf("refused %lu at %lu\n", (unsigned long)out[0], (unsigned long)out[1]);
+    rrufthim_format(NULL, 0, image, image_len, choice, output, sizeof output, out);
+    if (is_refused(out)) {
         return;
     }
-    fwrite(output, 1, (size_t)out[1], stdout);
-    if (out[2] != 0) {
-        printf("(%lu comments are not in the text)\n", (unsigned long)out[2]);
+    fwrite(output, 1, (size_t)out[RRUFTHIM_FORMAT_OUT_BYTES], stdout);
+    if (out[RRUFTHIM_FORMAT_OUT_LEFT] != 0) {
+        printf("(%lu comments are not in the text)\n", (unsigned long)out[RRUFTHIM_FORMAT_OUT_LEFT]);
     }
 }
 
 /* For an archive: the example without widths, and again as it was. */
 static void moves(void)
 {
-    static const uint8_t source[1] = {0};
     uint8_t kept[sizeof IMAGE], back[sizeof IMAGE];
     uint64_t out[RRUFTHIM_FORWARD_OUT];
     size_t bytes;
+    int same;
 
-    rrufthim_forward(source, 0, IMAGE, sizeof IMAGE, kept, sizeof kept, out);
-    if (out[0] != 0) {
-        printf("refused %lu at %lu\n", (unsigned long)out[0], (unsigned long)out[1]);
+    rrufthim_forward(NULL, 0, IMAGE, sizeof IMAGE, kept, sizeof kept, out);
+    if (is_refused(out)) {
         return;
     }
-    bytes = (size_t)out[1];
+    bytes = (size_t)out[RRUFTHIM_FORWARD_OUT_BYTES];
     printf("version %u: %lu bytes for %lu\n", (unsigned)kept[0], (unsigned long)bytes, (unsigned long)sizeof IMAGE);
-    rrufthim_back(source, 0, kept, bytes, back, sizeof back, out);
-    printf("back: %s\n", out[0] == 0 && out[1] == sizeof IMAGE && memcmp(back, IMAGE, sizeof IMAGE) == 0 ? "the same bytes" : "other bytes");
-    rrufthim_back(source, 0, kept, bytes, back, sizeof back - 1, out);
-    printf("a byte short: refused %lu at %lu\n", (unsigned long)out[0], (unsigned long)out[1]);
+    rrufthim_back(NULL, 0, kept, bytes, back, sizeof back, out);
+    same = out[RRUFTHIM_OUT_REFUSAL] == 0 && out[RRUFTHIM_BACK_OUT_BYTES] == sizeof IMAGE && memcmp(back, IMAGE, sizeof IMAGE) == 0;
+    printf("back: %s\n", same ? "the same bytes" : "other bytes");
+    rrufthim_back(NULL, 0, kept, bytes, back, sizeof back - 1, out);
+    printf("a byte short: ");
+    is_refused(out);
 }
 
 /* Lays out and renders the rest of a file that is archived, whose comments may be in any order. */
@@ -63,17 +79,15 @@ static void archived(const uint8_t *source, size_t source_len, const uint8_t *im
     uint64_t rows[RRUFTHIM_RENDER_ARGS] = {0, RRUFTHIM_REFERENCE_WIDTH, RRUFTHIM_WIDTHS_SUPPLIED, RRUFTHIM_ALL_ROWS};
 
     rrufthim_layout_archived(source, source_len, image, image_len, store, 8 * RRUFTHIM_ROW, laid, all, out);
-    if (out[0] != 0) {
-        printf("refused %lu at %lu\n", (unsigned long)out[0], (unsigned long)out[1]);
+    if (is_refused(out)) {
         return;
     }
-    rows[0] = out[5];
+    rows[RRUFTHIM_RENDER_ARGS_STOP] = out[RRUFTHIM_LAYOUT_OUT_STATE + RRUFTHIM_LAYOUT_STATE_NEXT_ROW];
     rrufthim_render(source, source_len, image, image_len, store, 8 * RRUFTHIM_ROW, marks, sizeof marks, output, sizeof output, shown, rows, out);
-    if (out[0] != 0) {
-        printf("refused %lu at %lu\n", (unsigned long)out[0], (unsigned long)out[1]);
+    if (is_refused(out)) {
         return;
     }
-    fwrite(output, 1, (size_t)out[1], stdout);
+    fwrite(output, 1, (size_t)out[RRUFTHIM_RENDER_OUT_BYTES], stdout);
 }
 
 /* A file without declarations, whose second comment comes first in the list: refused but by the archive entry. */
@@ -88,7 +102,7 @@ static void order(void)
     uint64_t out[RRUFTHIM_CHECK_OUT];
 
     rrufthim_check(source, sizeof source, image, sizeof image, out);
-    printf("refused %lu at %lu\n", (unsigned long)out[0], (unsigned long)out[1]);
+    is_refused(out);
     archived(source, sizeof source, image, sizeof image);
 }
 
@@ -106,23 +120,25 @@ static void order(void)
 /* Writes a tree from steps, and asks whether its text would be read back as this tree. */
 static void built(const uint8_t *steps, size_t steps_len)
 {
-    static const uint8_t source[1] = {0};
     uint8_t image[400];
     uint64_t out[RRUFTHIM_READS_BACK_OUT];
+    size_t bytes, at;
 
     rrufthim_write(steps, steps_len, image, sizeof image, out);
-    if (out[0] != 0) {
-        printf("refused %lu at %lu\n", (unsigned long)out[0], (unsigned long)out[1]);
+    if (is_refused(out)) {
         return;
     }
-    format(image, (size_t)out[1]);
-    rrufthim_reads_back(source, 0, image, (size_t)out[1], out);
-    if (out[0] != 0) {
-        printf("refused %lu at %lu\n", (unsigned long)out[0], (unsigned long)out[1]);
-    } else if (out[1] != 0) {
+    bytes = (size_t)out[RRUFTHIM_WRITE_OUT_BYTES];
+    format(image, bytes);
+    rrufthim_reads_back(NULL, 0, image, bytes, out);
+    if (is_refused(out)) {
+        return;
+    }
+    at = (size_t)out[RRUFTHIM_READS_BACK_OUT_AT];
+    if (out[RRUFTHIM_READS_BACK_OUT_SAME] != 0) {
         printf("is read back the same\n");
     } else {
-        printf("is read back differently: the operand at %lu, of kind %u\n", (unsigned long)out[2], (unsigned)image[out[2] + 4]);
+        printf("is read back differently: the operand at %lu, of kind %u\n", (unsigned long)at, (unsigned)image[at + 4]);
     }
 }
 
@@ -144,10 +160,8 @@ static void formulas(void)
 
     for (place = 0; place <= 6; place++) {
         rrufthim_formula(3, place, image, sizeof image, out);
-        if (out[0] != 0) {
-            printf("formula %lu: refused %lu at %lu\n", (unsigned long)place, (unsigned long)out[0], (unsigned long)out[1]);
-        } else {
-            format(image, (size_t)out[1]);
+        if (!is_refused(out)) {
+            format(image, (size_t)out[RRUFTHIM_FORMULA_OUT_BYTES]);
         }
     }
 }
@@ -160,10 +174,9 @@ static void columns(void)
 
     for (rule = RRUFTHIM_WIDTHS_SUPPLIED; rule <= RRUFTHIM_WIDTHS_UNICODE_16_0 + 1; rule++) {
         rrufthim_columns(text, sizeof text, rule, sizeof text, out);
-        if (out[0] != 0) {
-            printf("rule %lu: refused %lu at %lu\n", (unsigned long)rule, (unsigned long)out[0], (unsigned long)out[1]);
-        } else {
-            printf("rule %lu: %lu columns\n", (unsigned long)rule, (unsigned long)out[1]);
+        printf("rule %lu: ", (unsigned long)rule);
+        if (!is_refused(out)) {
+            printf("%lu columns\n", (unsigned long)out[RRUFTHIM_COLUMNS_OUT_COLUMNS]);
         }
     }
 }

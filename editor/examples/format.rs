@@ -22,7 +22,8 @@ fn main() -> Result<(), Box<dyn Error>> {
     let mut roto = Formatter::new().with_options(Options::AS_ROTO);
     let formatted = roto.format_tree(&tree, SOURCE, &extras)?;
     for comment in formatted.comments_left {
-        eprintln!("Roto would drop: {}", SOURCE[comment].trim_end());
+        let text = SOURCE[comment.span.clone()].trim_end();
+        eprintln!("{comment}: Roto would drop {text}");
     }
     Ok(())
 }

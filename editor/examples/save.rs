@@ -25,9 +25,10 @@ use rrufthim::Formatter;
 
 use common::{
     frame::Frame,
-    order::{Order, Program},
+    order::{Order, Program, Sought},
     put::{self, Text},
-    report::{Fate, Report, shown},
+    report::{Fate, Report},
+    shown::shown,
     target::Target,
 };
 
@@ -37,10 +38,12 @@ const PAIR: usize = 2;
 pub(crate) const SAVE: Program = Program {
     name: "save",
     counted: "file",
+    sought: Sought::FRAMES,
     usage: "\
-usage: save [--force] [--unicode V] [--] FRAME TARGET [FRAME TARGET]...",
+usage: save [--force] [--width N] [--unicode V] [--no-settings] [--]
+            FRAME TARGET [FRAME TARGET]...",
     manual: MANUAL,
-    takes: &["--force", "--unicode"],
+    takes: &["--force", "--width", "--unicode", "--no-settings"],
     fault_in,
 };
 
@@ -51,10 +54,16 @@ frame's source nor the text was changed since the frame was made: it is named,
 and left alone. Mode, owner and links are kept. Each pair is tried, whatever
 became of those before it.
 
-  --force     overwrites what was changed since its frame was made
-  --unicode V columns by Unicode V, 15.1 or 16.0, in place of what the frames
-              say of names and of the bytes of literals
-  --help      says this
+  --force       overwrites what was changed since its frame was made
+  --width N     lines of N columns, from 40 to 200, in place of 80
+  --unicode V   columns by Unicode V, 15.1 or 16.0, in place of what the frames
+                say of names and of the bytes of literals
+  --no-settings passes over files of settings
+  --help        says this
+
+What isn't chosen here is as the settings of the target's folder say: those of
+the nearest rrufthim.toml, in the folder itself or above it. Where they say that
+comments are left out, a frame of which the text lacks one is refused.
 
 Status: 2 if a frame is refused, a target is left alone, or something can't be
 read or written; else 0. What makes it 2 is said on standard error.";
@@ -83,10 +92,20 @@ fn fault_in(paths: &[PathBuf]) -> Option<String> {
 
 fn save_all(order: &Order, report: &mut Report<'_>) {
     // One for all saves: its buffers are kept.
-    let mut formatter = Formatter::new().with_options(order.options.clone());
+    let mut formatter = Formatter::new();
     for pair in order.paths.chunks_exact(PAIR) {
-        save(&mut formatter, &pair[0], &pair[1], order, report);
+        let (frame, target) = (&pair[0], &pair[1]);
+        match order.options(target) {
+            Ok(options) => {
+                formatter = formatter.with_options(options);
+                save(&mut formatter, frame, target, order, report);
+            }
+            Err(error) => {
+                report.end(target, Fate::Failed, &error.to_string());
+            }
+        }
     }
+    report.sum_up();
 }
 
 /// Formats a frame and puts its text, which holds every comment, in its place.
@@ -114,7 +133,7 @@ pub(crate) fn save(
     };
     let text = Text {
         bytes: text,
-        comments_left: 0,
+        comments_left: &[],
         outgrown,
     };
     match Target::read(target) {

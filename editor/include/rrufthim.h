@@ -2,13 +2,13 @@
  * The proved formatter for Roto scripts, as C calls it. The functions are those of librrufthim.a: target/staticlib/libexports.a, which
  * `tools/build exports` writes (x86-64 Linux), under a name that no other library has. docs/01-scope.md has the rules: the tree image,
  * rows, marks, states and refusals; docs/02-change-requests.md those of tallies, widths, modes, steps, batches, rules of widths, the
- * image's version 2, the order of comments and trees that would be read back differently.
+ * image's version 2, the order of comments, trees that would be read back differently and small formulas.
  *
  * Buffers. A pointer to bytes, rows or a table goes with the number of its elements; state, args, choice, tallies and out have a fixed
- * number of places. No pointer may be NULL, even where the number is 0. store and table must be aligned for uint32_t, those of a fixed
- * number of places for uint64_t. What a call may change (store, marks, table, output, out) must overlap nothing else that it is given; all
- * else is only read. Nothing is kept after a call, and no call shares anything with another: threads need nothing but buffers of their
- * own. A call takes less than 256 KB of stack and no heap.
+ * number of places, for which rrufthim_places.h has names. A pointer may be NULL where it goes with the number 0 (rrufthim_null.h), and
+ * else not. store and table must be aligned for uint32_t, those of a fixed number of places for uint64_t. What a call may change (store,
+ * marks, table, output, out) must overlap nothing else that it is given; all else is only read. Nothing is kept after a call, and no call
+ * shares anything with another: threads need nothing but buffers of their own. A call takes less than 256 KB of stack and no heap.
  *
  * Answers. out[0] is 0 if the call is accepted; the other numbers are then those named at each function. Else out[0] is the refusal's
  * number and out[1] its place, and the rest of out is left as it was. A refused call changes no other buffer. An accepted one leaves what
@@ -28,9 +28,10 @@
  *
  * Flags. In state and args every number but 0 means yes; in out a flag is 0 or 1.
  *
- * For people. The span that a refusal is about stands in the image, start and end as four bytes each, the highest first: for 5 and 6 behind
- * the length and the kind of the record, at image[out[1] + 5], and so for 21; for 7 at image[out[1]], unless out[1] is 5, the place of their count.
- * That of an operand which rrufthim_reads_back names is at image[out[2] + 5].
+ * For people. rrufthim_words says what a refusal's number means, and rrufthim_place_words what its place is (rrufthim_words.h). The span that a
+ * refusal is about stands in the image, start and end as four bytes each, the highest first: for 5 and 6 behind the length and the kind of
+ * the record, at image[out[1] + 5], and so for 21; for 7 at image[out[1]], unless out[1] is 5, the place of their count. That of an operand
+ * which rrufthim_reads_back names is at image[out[2] + 5].
  */
 #ifndef RRUFTHIM_H
 #define RRUFTHIM_H
@@ -416,6 +417,10 @@ void rrufthim_formula(
     uint64_t place,
     uint8_t *output, size_t output_len,
     uint64_t out[RRUFTHIM_FORMULA_OUT]);
+
+#include "rrufthim_places.h"
+#include "rrufthim_null.h"
+#include "rrufthim_words.h"
 
 #ifdef __cplusplus
 }

@@ -79,10 +79,11 @@ impl Batch {
         }
     }
 
-    /// The same with other options.
+    /// The same with other options, for the files from now on. One that is
+    /// kept stays the same, buffers and all: `kept = kept.with_options(..)`.
     #[must_use]
     pub fn with_options(mut self, options: Options) -> Self {
-        self.set_options(options);
+        self.formatter = self.formatter.with_options(options);
         self
     }
 
@@ -91,11 +92,6 @@ impl Batch {
     pub fn with_max_output(mut self, bytes: usize) -> Self {
         self.formatter = self.formatter.with_max_output(bytes);
         self
-    }
-
-    /// Chooses other options for the files from now on.
-    pub fn set_options(&mut self, options: Options) {
-        self.formatter.set_options(options);
     }
 
     /// What is chosen.
@@ -220,7 +216,7 @@ fn formatted(
     let left = comments_left(file, text.len(), options);
     let left = left.map_err(|refusal| file.error(refusal))?;
     let text = std::str::from_utf8(text).map_err(FormatError::not_utf8)?;
-    Ok(Formatted::new(text.to_owned(), left))
+    Ok(Formatted::new(text.to_owned(), file, left))
 }
 
 /// The comments that a file's text of so many bytes lacks. By default there

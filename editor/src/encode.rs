@@ -4,6 +4,7 @@ use std::{error::Error, fmt};
 
 use crate::{
     ast::{self, Meta, Span, SyntaxTree},
+    error::FormatError,
     image::Version,
     limits::{MAX_BODY, MAX_COMMENTS, MAX_DEPTH, MAX_SOURCE, MAX_WIDTH},
     writer::{ImageWriter, WriteResult},
@@ -71,6 +72,12 @@ pub enum EncodeError {
 }
 
 impl EncodeError {
+    /// The same in words for people, with line and column in the source that
+    /// the tree is of: the encoder itself doesn't see it.
+    pub fn in_source(self, source: &str) -> FormatError {
+        FormatError::encode(self, source.as_bytes())
+    }
+
     /// The span that it is about, if it is about one.
     pub fn span(&self) -> Option<Span> {
         match self {

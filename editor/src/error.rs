@@ -55,7 +55,7 @@ impl FormatError {
     /// where each rule has a name.
     fn in_source(&self) -> Option<String> {
         const NO_WIDTHS: &str = "the tree image is of version 2, which has no \
-            widths: choose those of Unicode 16.0";
+            widths: choose those of Unicode 16.0, or move it back to version 1";
         match (&self.cause, &self.place) {
             (Cause::Refused(Refusal::BadRule), _) => Some(NO_WIDTHS.into()),
             (Cause::Refused(refusal), Some(place)) => {

@@ -5,6 +5,7 @@ use std::fmt;
 
 use crate::{
     calls::refused,
+    error::FormatError,
     file::File,
     linked::{self, numbers, sizes},
     refusal::Refusal,
@@ -122,7 +123,8 @@ pub struct Counted {
 ///
 /// # Errors
 ///
-/// Refusals 20, for an image of version 2, 1 to 10, then 14, each of which leaves the tallies as they were.
+/// Refusals 20, for an image of version 2, 1 to 10, then 14, each of which
+/// leaves the tallies as they were.
 pub fn count(
     file: File<'_>,
     tallies: &mut Tallies,
@@ -170,9 +172,10 @@ impl Report {
     ///
     /// # Errors
     ///
-    /// As [`count`].
-    pub fn count(&mut self, file: File<'_>) -> Result<Figures, Refusal> {
-        let counted = count(file, &mut self.tallies)?;
+    /// As [`count`], in words for people.
+    pub fn count(&mut self, file: File<'_>) -> Result<Figures, FormatError> {
+        let counted = count(file, &mut self.tallies);
+        let counted = counted.map_err(|refusal| file.error(refusal))?;
         self.fraction = counted.fraction;
         Ok(counted.figures)
     }

@@ -77,8 +77,8 @@ pub fn fmt_written(
     // It is taken out, so that `write` may itself come here, and a thread
     // that is ending has a new one.
     let kept = KEPT.try_with(RefCell::take);
-    let mut formatter = kept.unwrap_or_default();
-    formatter.set_options(options.clone());
+    let formatter = kept.unwrap_or_default();
+    let mut formatter = formatter.with_options(options.clone());
     let formatted = formatter.format_written(source, write);
     let formatted = formatted.map(Formatted::into_owned);
     let _ = KEPT.try_with(|kept| kept.replace(formatter));

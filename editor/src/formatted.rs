@@ -2,7 +2,7 @@
 
 use std::{error::Error, fmt};
 
-use crate::{ast::Span, limits::MAX_SOURCE};
+use crate::{ast::Span, file::File, limits::MAX_SOURCE, place::Place};
 
 /// A formatted file: `Formatted<String>` with a text of its own,
 /// `Formatted<&str>` with one in the buffers of a
@@ -14,11 +14,12 @@ pub struct Formatted<Text = String> {
     /// The text. It holds every comment, unless
     /// [`Comments::AsRoto`](crate::Comments::AsRoto) was chosen.
     pub text: Text,
-    /// The comments that the text doesn't hold, in their order: none by
+    /// The comments that the text doesn't hold, in their order and with line
+    /// and column: none by
     /// default; with [`Comments::AsRoto`](crate::Comments::AsRoto) those after
     /// the last place of the last declaration where a comment can stand.
     /// Saving the text alone drops them.
-    pub comments_left: Vec<Span>,
+    pub comments_left: Vec<Place>,
     /// Whether the text is over [`MAX_SOURCE`] bytes. Nothing is wrong with
     /// it, but once it is saved, the file can't be formatted again: the next
     /// save is refused by 1.
@@ -26,8 +27,9 @@ pub struct Formatted<Text = String> {
 }
 
 impl<Text: AsRef<str>> Formatted<Text> {
-    pub(crate) fn new(text: Text, comments_left: Vec<Span>) -> Self {
+    pub(crate) fn new(text: Text, file: File<'_>, left: Vec<Span>) -> Self {
         let outgrown = text.as_ref().len() > MAX_SOURCE;
+        let comments_left = Place::all(file.source, left);
         Formatted {
             text,
             comments_left,
@@ -59,11 +61,20 @@ impl<Text: AsRef<str>> Formatted<Text> {
 
 /// Comments that a formatted text doesn't hold.
 #[derive(Clone, Debug, PartialEq, Eq)]
-pub struct CommentsLeft(pub Vec<Span>);
+pub struct CommentsLeft(pub Vec<Place>);
 
 impl fmt::Display for CommentsLeft {
     fn fmt(&self, f: &mut fmt::Formatter<'_>) -> fmt::Result {
-        write!(f, "the formatted text drops the comments at {:?}", self.0)
+        let CommentsLeft(places) = self;
+        f.write_str("the formatted text drops ")?;
+        match &places[..] {
+            [] => f.write_str("no comment"),
+            [one] => write!(f, "the comment at {one}"),
+            [first, ..] => {
+                let count = places.len();
+                write!(f, "{count} comments, the first at {first}")
+            }
+        }
     }
 }
 

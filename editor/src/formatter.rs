@@ -72,10 +72,11 @@ impl Formatter {
         }
     }
 
-    /// The same with other options.
+    /// The same with other options, for the files from now on. One that is
+    /// kept stays the same, buffers and all: `kept = kept.with_options(..)`.
     #[must_use]
     pub fn with_options(mut self, options: Options) -> Self {
-        self.set_options(options);
+        self.options = options;
         self
     }
 
@@ -84,11 +85,6 @@ impl Formatter {
     pub fn with_max_output(mut self, bytes: usize) -> Self {
         self.buffers.max_output = bytes;
         self
-    }
-
-    /// Chooses other options for the files from now on.
-    pub fn set_options(&mut self, options: Options) {
-        self.options = options;
     }
 
     /// What is chosen.
@@ -207,5 +203,5 @@ fn format<'b>(
     let written = written.map_err(refused)?;
     let text = buffers.text(written.bytes)?;
     let left = comments_from(file.image, laid.state.comments_placed);
-    Ok(Formatted::new(text, left))
+    Ok(Formatted::new(text, file, left))
 }

@@ -11,6 +11,7 @@ use crate::{
     image::{comments_from, name_start},
     limits::{ALL_ROWS, MAX_OUTPUT},
     options::Options,
+    place::Place,
 };
 
 /// A file that is laid out and rendered a part at a time: what
@@ -92,10 +93,14 @@ impl<'f> InParts<'f> {
         &self.rendering
     }
 
-    /// The comments that no row holds yet; once the layout is closed, those
-    /// that the text doesn't hold: none, unless they are left out as in
-    /// Roto's own formatter.
-    pub fn comments_left(&self) -> Vec<Span> {
+    /// The comments that no row holds yet, with line and column; once the
+    /// layout is closed, those that the text doesn't hold: none, unless they
+    /// are left out as in Roto's own formatter.
+    pub fn comments_left(&self) -> Vec<Place> {
+        Place::all(self.file.source, self.spans_left())
+    }
+
+    fn spans_left(&self) -> Vec<Span> {
         comments_from(self.file.image, self.layout.comments_placed)
     }
 
@@ -116,7 +121,7 @@ impl<'f> InParts<'f> {
         };
         let mut from = self.layout.position;
         let mut gaps = Vec::new();
-        for comment in self.comments_left() {
+        for comment in self.spans_left() {
             if comment.start >= name {
                 break;
             }

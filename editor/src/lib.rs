@@ -19,32 +19,65 @@
 //! # Ok::<(), rrufthim::FormatError>(())
 //! ```
 //!
-//! - **A file at a time.** [`fmt_parsed`] takes the place of Roto's own.
-//!   [`fmt_written`] does the same for trees of other types, Roto's own among
-//!   them, which a plug writes by an [`ImageWriter`] (README.md, "Plugging
-//!   in"). What a caller may choose is [`Options`]; by default every comment
-//!   is kept.
-//! - **File after file.** A [`Formatter`] keeps its buffers for the next file;
-//!   a [`Batch`] formats lists of files by few calls. [`InParts`] gives the
-//!   text of a long file a part at a time.
-//! - **Images.** What all calls read is a [`File`]: a source, and its tree as
-//!   an image. [`encode`] gives that of a tree, [`encode_written`] that of
-//!   what a plug writes, and a [`generator`] builds one from steps. An
-//!   [`archive`] may keep them without widths. [`reads_back`] says of a tree
-//!   that no parser gave whether its text would be read as this tree, and
-//!   [`formulas`] gives all small formulas, to try things on.
-//! - **The proved functions themselves** are [`calls`], over slices that the
-//!   caller lends: any arguments that safe Rust can give them end in an
-//!   answer or a [`Refusal`]. [`figures`] counts files.
+//! # What there is
+//!
+//! | For | Names |
+//! |---|---|
+//! | a file at a time | [`fmt_parsed`], which takes the place of Roto's own; [`fmt_written`], for trees of other types, Roto's own among them, which a plug writes by an [`ImageWriter`] (README.md, "Plugging in") |
+//! | file after file | [`Formatter`], which keeps its buffers; [`Batch`], for lists of files |
+//! | a long file a part at a time | [`InParts`], and below it [`Rendering`] |
+//! | what is chosen | [`Options`], by [`Formatter::with_options`] and the like; [`settings`], which reads what a folder chooses for its files |
+//! | what is wrong | [`FormatError`], in words, with line and column ([`Place`]); by a number, [`Refusal`] |
+//! | a tree | [`ast`], and [`encode`], which makes an image of it: what all calls read, with its source a [`File`] |
+//! | an image without a tree | [`generator`], from steps; [`reads_back`] says whether its text would be read as this tree; [`kind`] names its records; [`formulas`] gives all small formulas, to try things on |
+//! | archives | [`archive`], images without widths |
+//! | figures | [`figures`], of files and of many together |
+//! | the proved functions themselves | [`calls`], over slices that the caller lends: any arguments that safe Rust can give them end in an answer or a [`Refusal`]; [`limits`] |
+//!
+//! By default every comment is kept. Options are chosen in one way:
+//! `with_options` where there is something to keep, else the functions are
+//! handed them.
+//!
+//! ```
+//! use rrufthim::{Comments, Formatter, Options, Widths};
+//!
+//! let options = Options::default()
+//!     .with_width(100)
+//!     .with_widths(Widths::Unicode16_0)
+//!     .with_comments(Comments::All);
+//! let formatter = Formatter::new().with_options(options);
+//! # assert_eq!(formatter.options().width, 100);
+//! ```
 //!
 //! Structs that may get further fields are `#[non_exhaustive]`: they are made
 //! by their constructors or as the default, and changed by `with_..` or field
 //! by field.
 //!
+//! # The static library
+//!
+//! The functions are proved in Rattle and linked from a static library, which
+//! `tools/build exports` makes in the repository's top folder. The crate finds
+//! it at ../target/staticlib/libexports.a, or where `RRUFTHIM_ARCHIVE` says as
+//! it is built:
+//!
+//! ```sh
+//! RRUFTHIM_ARCHIVE=/opt/rrufthim/libexports.a cargo build   # the file, or its folder
+//! ```
+//!
+//! A path that isn't absolute is taken from this package's folder. A library
+//! of another shape ([`SHAPE`]) isn't linked. It is for x86-64 Linux, and so is
+//! the crate; elsewhere it doesn't compile, and says so.
+//!
 //! docs/01-scope.md and docs/02-change-requests.md of the repository have the
 //! rules.
 
 #![deny(missing_docs, unsafe_code)]
+
+#[cfg(not(all(target_arch = "x86_64", target_os = "linux")))]
+compile_error!(
+    "rrufthim is for x86-64 Linux: the static library of the proved functions \
+     has machine code for that alone"
+);
 
 // By this name the files of plug/ find what they use.
 extern crate self as rrufthim;
@@ -75,6 +108,7 @@ mod place;
 mod read_back;
 mod refusal;
 mod rendering;
+pub mod settings;
 mod writer;
 
 pub use ast::Span;

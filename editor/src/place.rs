@@ -20,15 +20,52 @@ pub struct Place {
 impl Place {
     /// Where this span starts in a source.
     pub fn new(source: &[u8], span: Span) -> Self {
-        let before = &source[..span.start.min(source.len())];
-        let newline = before.iter().rposition(|byte| *byte == b'\n');
-        let line_start = newline.map_or(0, |at| at + 1);
-        let newlines = before.iter().filter(|byte| **byte == b'\n');
+        Start::default().of(source, span)
+    }
+
+    /// Where each of some spans starts. The source is gone over once, if they
+    /// are in order.
+    pub(crate) fn all(source: &[u8], spans: Vec<Span>) -> Vec<Self> {
+        let mut start = Start::default();
+        let place = |span: Span| {
+            if span.start < start.byte {
+                start = Start::default();
+            }
+            start.of(source, span)
+        };
+        spans.into_iter().map(place).collect()
+    }
+}
+
+/// How far a source was gone over: so many lines and, on the last, so many
+/// characters.
+#[derive(Default)]
+struct Start {
+    byte: usize,
+    newlines: usize,
+    characters: usize,
+}
+
+impl Start {
+    /// Goes on to a span that doesn't start before.
+    fn of(&mut self, source: &[u8], span: Span) -> Place {
+        let end = span.start.min(source.len());
+        let passed = &source[self.byte..end];
+        self.byte = end;
+        self.newlines += passed.iter().filter(|it| **it == b'\n').count();
+        let newline = passed.iter().rposition(|byte| *byte == b'\n');
+        let line = match newline {
+            None => passed,
+            Some(at) => {
+                self.characters = 0;
+                &passed[at + 1..]
+            }
+        };
         let starts_character = |byte: &&u8| **byte & 0xC0 != 0x80;
-        let characters = before[line_start..].iter().filter(starts_character);
+        self.characters += line.iter().filter(starts_character).count();
         Place {
-            line: 1 + newlines.count(),
-            column: 1 + characters.count(),
+            line: 1 + self.newlines,
+            column: 1 + self.characters,
             span,
         }
     }

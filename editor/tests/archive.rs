@@ -280,7 +280,7 @@ fn every_door_asks_for_unicode_16() {
     assert_eq!(all_parts(parts).expect("a text"), due);
     for widths in [Widths::Supplied, Widths::Unicode15_1] {
         let options = by(widths);
-        formatter.set_options(options.clone());
+        formatter = formatter.with_options(options.clone());
         let alone = formatter.format_file(file).map(|_| ()).expect_err("20");
         let batch = Batch::new().with_options(options.clone());
         let batch = { batch }.format_files([file]).remove(0);
@@ -290,7 +290,8 @@ fn every_door_asks_for_unicode_16() {
         for error in errors {
             assert_eq!(error.cause, Cause::Refused(Refusal::BadRule));
             let words = "the tree image is of version 2, which has no \
-                widths: choose those of Unicode 16.0";
+                widths: choose those of Unicode 16.0, or move it back to \
+                version 1";
             assert_eq!(error.to_string(), words);
         }
         calls_refuse(file, &options);
@@ -329,7 +330,8 @@ fn the_report_counts_no_version_2() {
     let kept = two(&shebang("#!/x"));
     let file = File::new("", &kept);
     let mut report = figures::Report::default();
-    assert_eq!(report.count(file).map(|_| ()), Err(Refusal::BadRule));
+    let error = report.count(file).expect_err("without widths");
+    assert_eq!(error.cause, Cause::Refused(Refusal::BadRule));
     assert_eq!(report.tallies().files, 0);
 }
 
@@ -339,7 +341,7 @@ fn steps_are_of_version_1() {
     let kept = two(&shebang("#!/x"));
     let file = File::new("", &kept);
     assert!(check(file).is_ok());
-    assert_eq!(steps(file).map(|_| ()), Err(Refusal::NoImage));
+    assert_eq!(steps(file), Err(file.error(Refusal::NoImage)));
     let one = back(file).expect("moved");
     assert!(steps(File::new("", &one)).is_ok());
 }

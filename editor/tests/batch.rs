@@ -3,8 +3,8 @@
 mod support;
 
 use rrufthim::{
-    Batch, Cause, File, FormatError, Formatted, Formatter, Options, Refusal,
-    Widths,
+    Batch, Cause, File, FormatError, Formatted, Formatter, Options, Place,
+    Refusal, Widths,
     ast::*,
     calls::{TABLE_ROW, format_batch, format_file},
     encode,
@@ -273,7 +273,7 @@ fn lists_are_answered_as_file_by_file() {
                 assert_eq!(answer, alone.map(Formatted::into_owned));
             }
         }
-        kept.set_options(options);
+        kept = kept.with_options(options);
         assert_eq!(answers(&mut kept, &mixed), answers(&mut batch, &mixed));
     }
 }
@@ -303,7 +303,10 @@ fn comments_at_the_foot() {
         let mut batch = Batch::new().with_options(options);
         let answers = answers(&mut batch, &files).into_iter();
         let texts = answers.map(|answer| answer.expect("a text"));
-        texts.map(|text| text.comments_left).collect()
+        let spans = |places: Vec<Place>| {
+            places.into_iter().map(|place| place.span).collect()
+        };
+        texts.map(|text| spans(text.comments_left)).collect()
     };
     assert_eq!(left(Options::default()), vec![vec![]; 3]);
     let dropped = left(Options::AS_ROTO);

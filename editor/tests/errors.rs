@@ -274,3 +274,18 @@ fn badly_written_images_are_refused() {
     });
     assert_eq!(left_open, no_tree);
 }
+
+/// The encoder doesn't see the source; with it, its errors have a place.
+#[test]
+fn what_the_encoder_says_gets_a_place() {
+    let source = "// a\n// b\n";
+    let error = encode(&SyntaxTree::default(), &[5..9, 0..4]);
+    let error = error.expect_err("out of order").in_source(source);
+    let place = error.place.as_ref().expect("a comment");
+    assert_eq!((place.line, place.column), (1, 1));
+    assert!(
+        error
+            .to_string()
+            .starts_with("line 1, column 1: comment 1 ")
+    );
+}

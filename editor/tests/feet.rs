@@ -5,7 +5,7 @@ mod support;
 
 use rrufthim::{
     Comments, CommentsLeft, File, Formatted, Formatter, InParts, Options,
-    Refusal,
+    Place, Refusal,
     ast::*,
     calls::{LayoutArgs, LayoutState, format_file, layout},
     encode, fmt_parsed, fmt_written, simple_width, write_tree,
@@ -60,7 +60,8 @@ fn the_default_keeps_the_last_line() {
     let [left] = &roto.comments_left[..] else {
         panic!("{roto:?}");
     };
-    assert_eq!(&SOURCE[left.clone()], FOOT);
+    assert_eq!(&SOURCE[left.span.clone()], FOOT);
+    assert_eq!(left.to_string(), "line 7, column 1");
     assert_eq!(
         roto.clone().complete(),
         Err(CommentsLeft(vec![left.clone()]))
@@ -68,20 +69,49 @@ fn the_default_keeps_the_last_line() {
     assert_eq!(kept.clone().complete(), Ok(kept.text));
 }
 
+/// The comments that a text lacks.
+fn spans(formatted: &Formatted) -> Vec<Span> {
+    let places = formatted.comments_left.iter();
+    places.map(|place| place.span.clone()).collect()
+}
+
+/// Line and column are those of each comment by itself, in whatever order
+/// they come; where the text is asked for alone, the first is named.
+#[test]
+fn comments_that_are_dropped_have_places() {
+    let source = "const A: u32 = 1; // é\n\n// a\n// b, ünd // c\n";
+    let comments = [18..24, 25..30, 30..39, 39..44];
+    let [_, roto] = both(source, &comments);
+    assert_eq!(spans(&roto), comments);
+    let due = comments.map(|span| Place::new(source.as_bytes(), span));
+    assert_eq!(roto.comments_left, due);
+    let shown = roto.comments_left.iter().map(Place::to_string);
+    let due = ["1, column 19", "3, column 1", "4, column 1", "4, column 9"];
+    assert_eq!(
+        shown.collect::<Vec<_>>(),
+        due.map(|it| format!("line {it}"))
+    );
+    let left = roto.complete().expect_err("dropped").to_string();
+    let due = "the formatted text drops 4 comments, the first at line 1, \
+        column 19";
+    assert_eq!(left, due);
+    let [_, one] = both("# ok", &[0..4]);
+    let left = one.complete().expect_err("dropped").to_string();
+    let due = "the formatted text drops the comment at line 1, column 1";
+    assert_eq!(left, due);
+}
+
 /// The second answers of document 02, beside those of document 01.
 #[test]
 fn second_answers() {
     let [kept, roto] = both("const A: u32 = 1; # ok\n", &[18..23]);
     assert_eq!(kept.text, "const A: u32 = 1; # ok\n");
-    assert_eq!(kept.comments_left, []);
+    assert!(kept.comments_left.is_empty());
     assert_eq!(roto.text, "const A: u32 = 1;\n");
-    assert_eq!(roto.comments_left, [18..23]);
+    assert_eq!(spans(&roto), [18..23]);
     let [kept, roto] = both("# ok\n", &[0..5]);
-    assert_eq!(
-        (&kept.text[..], &kept.comments_left[..]),
-        ("# ok\n", &[][..])
-    );
-    assert_eq!((&roto.text[..], &roto.comments_left), ("", &vec![0..5]));
+    assert_eq!((&kept.text[..], spans(&kept)), ("# ok\n", vec![]));
+    assert_eq!((&roto.text[..], spans(&roto)), ("", vec![0..5]));
 }
 
 /// Blank lines before a comment at the foot are one, behind it none, and none

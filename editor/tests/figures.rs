@@ -166,8 +166,9 @@ fn a_report_of_no_file() {
     let mut report = Report::new();
     let nothing = Fraction { over: 0, under: 1 };
     assert_eq!(report.fraction(), nothing);
-    let refused = report.count(File::new("", ""));
-    assert_eq!(refused, Err(Refusal::NoImage));
+    let file = File::new("", "");
+    let refused = report.count(file);
+    assert_eq!(refused, Err(file.error(Refusal::NoImage)));
     assert_eq!(*report.tallies(), Tallies::default());
     assert_eq!(report.fraction(), nothing);
 }
@@ -183,7 +184,8 @@ fn no_file_past_the_last_is_counted() {
     let full = report.tallies().clone();
     assert_eq!((full.files, &full.all), (MAX_FILES, &of_lines(MAX_FILES)));
     for _ in 0..2 {
-        assert_eq!(report.count(file), Err(Refusal::BadTallies));
+        let due = file.error(Refusal::BadTallies);
+        assert_eq!(report.count(file), Err(due));
         assert_eq!(*report.tallies(), full);
     }
 }

@@ -429,7 +429,8 @@ fn lent_outputs() {
     let bad = Refusal::SourceNotUtf8 { at: 0 };
     let written = write_list(File::new(b"\xFF", &image), &mut output);
     assert_eq!(written, Err(bad));
-    assert_eq!(steps(constant_file(&[1])), Err(Refusal::NoImage));
+    let file = constant_file(&[1]);
+    assert_eq!(steps(file), Err(file.error(Refusal::NoImage)));
 }
 
 #[test]

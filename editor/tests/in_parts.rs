@@ -38,7 +38,7 @@ fn comments_are_left_as_in_one_run() {
     let file = File::new(SOURCE, &image);
     let mut formatter = Formatter::new();
     for (options, left) in [(Options::default(), 0), (Options::AS_ROTO, 1)] {
-        formatter.set_options(options.clone());
+        formatter = formatter.with_options(options.clone());
         let whole = formatter.format_file(file).expect("a text");
         assert_eq!(whole.comments_left.len(), left);
 

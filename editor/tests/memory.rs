@@ -93,12 +93,12 @@ fn the_next_save_takes_nothing() {
     let (tree, extras) = tariff();
     let mut formatter = Formatter::new();
     for save in 0..3 {
+        formatter = formatter.with_options(Options::AS_ROTO);
         let as_roto = asked(|| {
-            formatter.set_options(Options::AS_ROTO);
             let text = formatter.format_file(file);
             assert_eq!(text.expect("a text").comments_left.len(), 1);
         });
-        formatter.set_options(Options::default());
+        formatter = formatter.with_options(Options::default());
         let of_image = asked(|| {
             let text = formatter.format_file(file);
             assert!(text.expect("a text").complete().is_ok());
@@ -108,8 +108,8 @@ fn the_next_save_takes_nothing() {
             assert!(text.expect("a text").complete().is_ok());
         });
         if save > 0 {
-            // The list of the comment left.
-            assert!(as_roto.0 <= 64 && as_roto.1 == 0, "{as_roto:?}");
+            // The comment left: its span, and line and column.
+            assert!(as_roto.0 <= 128 && as_roto.1 == 0, "{as_roto:?}");
             assert_eq!([of_image, of_tree], [(0, 0); 2]);
         }
     }

@@ -55,7 +55,7 @@ fn a_list_that_runs_backwards_is_refused() {
     let counted = figures::count(file, &mut tallies).map(|_| ());
     assert_eq!(counted, Err(UNORDERED));
     assert_eq!(tallies, figures::Tallies::default());
-    assert_eq!(generator::steps(file), Err(UNORDERED));
+    assert_eq!(generator::steps(file), Err(file.error(UNORDERED)));
     let mut output = [0; 200];
     let whole = calls::format_file(file, &Options::default(), &mut output);
     assert_eq!(whole, Err(UNORDERED));
@@ -88,11 +88,12 @@ fn an_archived_list_comes_in_its_order() {
         (Version::Two, Widths::Unicode16_0),
     ] {
         let image = backwards(version);
-        formatter.set_options(Options::default().with_widths(widths));
+        let options = Options::default().with_widths(widths);
+        formatter = formatter.with_options(options);
         let file = File::new(SOURCE, &image);
         let formatted = formatter.format_archived(file).expect("a text");
         assert_eq!(formatted.text, ARCHIVED);
-        assert_eq!(formatted.comments_left, []);
+        assert!(formatted.comments_left.is_empty());
         assert!(formatter.format_file(file).is_err());
     }
 }

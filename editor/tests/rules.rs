@@ -104,11 +104,12 @@ fn names_are_measured_too() {
         let image = said(columns).expect("within the limits");
         let file = File::new(&source, &image);
         for widths in [Widths::Unicode15_1, Widths::Unicode16_0] {
-            formatter.set_options(by(widths));
+            formatter = formatter.with_options(by(widths));
             let formatted = formatter.format_file(file).expect("a text");
             assert_eq!(formatted.text, source);
         }
-        formatter.set_options(by(Widths::Supplied).with_width(200));
+        let wide = by(Widths::Supplied).with_width(200);
+        formatter = formatter.with_options(wide);
         let formatted = formatter.format_file(file).expect("a text");
         assert_eq!(formatted.text == source, columns < 100, "{columns}");
     }

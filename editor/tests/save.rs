@@ -27,8 +27,10 @@ const LINE: &str = "const A: u32 = 1;\n";
 const WIDE: &str = "\n const A: u32 = 1;";
 /// `WIDE`, and a line that was added to it since.
 const NEWER: &str = "\n const A: u32 = 1;\n// Surcharge agreed\n";
-const USAGE: &str =
-    "usage: save [--force] [--unicode V] [--] FRAME TARGET [FRAME TARGET]...";
+const USAGE: [&str; 2] = [
+    "usage: save [--force] [--width N] [--unicode V] [--no-settings] [--]",
+    "            FRAME TARGET [FRAME TARGET]...",
+];
 
 /// A folder that is empty at first.
 struct Folder(PathBuf);
@@ -184,7 +186,7 @@ fn what_is_not_whole_is_held_back() {
         assert_eq!(report.status(), 2);
         let error = String::from_utf8(err).expect("a line");
         assert!(error.starts_with(&folder.line("a.frame", "")), "{error}");
-        let comments = error.contains("drops the comments");
+        let comments = error.contains("drops the comment at line");
         assert_eq!(comments, length == bytes.len(), "{error}");
         assert_eq!(folder.text("a.roto").as_deref(), Some(SOURCE));
     }
@@ -329,12 +331,14 @@ fn what_is_not_understood_is_said_once() {
         (&["--force", "--", frame, target, frame], &alone),
         (&[frame, target, "--quiet"], "--quiet is no option"),
         (&["--check", frame, target], "--check is no option"),
-        (&["--width", "80", frame, target], "--width is no option"),
+        (&["--as-roto", frame, target], "--as-roto is no option"),
         (&["--unicode", "80", frame, target], edition),
     ];
     for (words, why) in faults {
         let said = said(words.iter().map(OsString::from));
-        let due = [&format!("save: {why}"), USAGE, "save --help says more"];
+        let [first, second] = USAGE;
+        let more = "save --help says more";
+        let due = [&format!("save: {why}"), first, second, more];
         assert_eq!(said.err, due);
         assert_eq!((said.status, said.out.len()), (2, 0), "{why}");
         assert_eq!(folder.names(), ["a.frame"]);
@@ -347,7 +351,7 @@ fn help_is_an_answer() {
     folder.put_frame("a.frame");
     let said = folder.save(&["--help"], &["a.frame", "a.roto"]);
     assert_eq!((said.status, said.err.len()), (0, 0));
-    assert_eq!(said.out[0], USAGE);
+    assert_eq!(said.out[..2], USAGE);
     for option in ["--force", "--unicode V", "--help"] {
         let starts =
             |line: &String| line.starts_with(&format!("  {option} "));
@@ -369,4 +373,78 @@ fn an_edition_is_chosen() {
     assert_eq!(folder.save(&[], &names).status, 0);
     let wrapped = folder.text("a.roto").expect("written");
     assert_eq!(wrapped.lines().count(), 8, "{wrapped}");
+}
+
+/// What the settings of the target's folder say, unless the words say another
+/// thing; where these are faulty, the target stays.
+#[test]
+fn settings_are_read() {
+    let folder = Folder::new("settings");
+    let source = list(&["x".into(), "y".repeat(35)]);
+    let image = encode(&list_tree(&source), &[]).expect("an image");
+    folder.put("a.frame", frame(&source, &image));
+    let names = ["a.frame", "a.roto"];
+    let lines = || folder.text("a.roto").expect("saved").lines().count();
+    folder.put("rrufthim.toml", "width = 60\n");
+    assert_eq!(folder.save(&[], &names).status, 0);
+    assert_eq!(lines(), 4);
+    for options in [&["--no-settings"][..], &["--width", "80"]] {
+        folder.put("a.roto", &source);
+        assert_eq!(folder.save(options, &names).status, 0);
+        assert_eq!(lines(), 1);
+    }
+    folder.put("rrufthim.toml", "width = 600\n");
+    folder.put("a.roto", &source);
+    let said = folder.save(&[], &names);
+    assert_eq!(
+        (said.status, &said.out[..]),
+        (2, &["1 file: 0 changed, 1 failed".into()][..])
+    );
+    assert!(
+        said.err[0].contains("rrufthim.toml: line 1, column 9: "),
+        "{said:?}"
+    );
+    assert_eq!(folder.text("a.roto").as_ref(), Some(&source));
+}
+
+/// A comment that settings leave out isn't lost by a save: the frame is
+/// refused.
+#[test]
+fn settings_drop_no_comment() {
+    let folder = Folder::new("as-roto");
+    folder.put("rrufthim.toml", "comments = \"as-roto\"\n");
+    folder.put("a.frame", frame(SOURCE, &tariff_image()));
+    folder.put("a.roto", SOURCE);
+    let said = folder.save(&[], &["a.frame", "a.roto"]);
+    let words = "the formatted text drops the comment at line 7, column 1";
+    assert_eq!(said.err, [folder.line("a.frame", words)]);
+    assert_eq!(folder.text("a.roto").as_deref(), Some(SOURCE));
+}
+
+/// Names with blanks, and that aren't UTF-8.
+#[test]
+fn names_of_any_bytes() {
+    use std::os::unix::ffi::OsStringExt;
+
+    let folder = Folder::new("names");
+    folder.put_frame("two words.frame");
+    let odd = OsString::from_vec(b"\xff.roto".into());
+    let target = folder.0.join(odd);
+    let words = [folder.path("two words.frame"), target.clone()];
+    let said = said(words.into_iter().map(OsString::from));
+    assert_eq!((said.status, said.err.len()), (0, 0));
+    assert!(said.out[0].ends_with(r#"/\xFF.roto": changed"#), "{said:?}");
+    assert_eq!(fs::read_to_string(target).expect("saved"), LINE);
+}
+
+#[test]
+fn three_hundred_pairs() {
+    let folder = Folder::new("many");
+    folder.put_frame("a.frame");
+    let targets: Vec<_> = (0..300).map(|at| format!("{at}.roto")).collect();
+    let names = targets.iter().flat_map(|target| ["a.frame", target]);
+    let said = folder.save(&[], &names.collect::<Vec<_>>());
+    assert_eq!((said.status, said.out.len()), (0, 301));
+    assert_eq!(said.out[300], "300 files: 300 changed");
+    assert_eq!(folder.text("299.roto").as_deref(), Some(LINE));
 }

@@ -89,7 +89,7 @@ fn every_door_takes_the_width() {
     let mut output = vec![0; 4_000];
     for width in [40, 57, 80, 100, COLUMNS - 1, COLUMNS, 200] {
         let due = text_at(width);
-        formatter.set_options(at(width));
+        formatter = formatter.with_options(at(width));
         let got = formatter.format_file(file).expect("a text");
         assert_eq!(got.text, due);
         let written = format_file(file, &at(width), &mut output);
@@ -114,7 +114,7 @@ fn every_door_refuses_other_widths() {
     let mut formatter = Formatter::new();
     let mut output = vec![0; 4_000];
     for width in [0, 39, 201, usize::MAX] {
-        formatter.set_options(at(width));
+        formatter = formatter.with_options(at(width));
         assert!(refused(formatter.format_file(file)));
         assert!(refused(written_at(width)));
         let written = format_file(file, &at(width), &mut output);

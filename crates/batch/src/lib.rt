@@ -11,7 +11,7 @@ ghost use Rattle.batch.specs.Whole.{Batches};
 use crate::counting::count_texts;
 use crate::frames::count_frames;
 use crate::writing::{CELLS, write_saves};
-use file::FileChoice;
+use file::{FileChoice, marks, rows};
 use refusals::{Reason, Refused};
 
 /// What a batch gives: how many files there are, and the bytes of their texts.
@@ -36,10 +36,13 @@ pub fn format_batch(
     if table.len() < cells {
         return Err(Reason::BatchNeeds.at(cells));
     }
-    let bytes = count_texts(frames, choice);
+    // One after the other the files have the same rows and marks, which are cleared once.
+    let mut store = rows();
+    let mut used = marks();
+    let bytes = count_texts(frames, &mut store, &mut used, choice);
     if out.len() < bytes {
         return Err(Reason::BatchNeeds.at(bytes));
     }
-    write_saves(frames, table, out, choice);
+    write_saves(frames, &mut store, &mut used, table, out, choice);
     Ok(Batch { files, bytes })
 }

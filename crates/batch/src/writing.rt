@@ -5,7 +5,7 @@ ghost use Rattle.file.specs.Whole.{to_choice};
 ghost use Rattle.batch.specs.Whole.{saved, text_of, cells, Small, Saved, Room, Written};
 
 use crate::frames::{Frame, Frames};
-use file::{FileChoice, format_file};
+use file::{CELLS as ROW_CELLS, FileChoice, MARKS, format_lent};
 
 // Three numbers a file.
 pub(crate) const CELLS: usize = 3;
@@ -21,11 +21,17 @@ pub(crate) struct Row {
 
 // Writes the text of a frame's file, where it has room; the answer is the file's row.
 #[tactic(auto, using(crate::proofs::Steps::saved_text))]
-fn write_text(frame: &Frame, out: &mut [u8], choice: FileChoice) -> Row
+fn write_text(
+    frame: &Frame,
+    store: &mut [u32; ROW_CELLS],
+    used: &mut [u8; MARKS],
+    out: &mut [u8],
+    choice: FileChoice,
+) -> Row
     requires { length (text_of (to_choice choice) (saved frame.now)) ≤ length out.old }
     ensures { Saved (to_choice choice) (saved frame.now) out.old result out.new }
 {
-    match format_file(frame.source, frame.image, out, choice) {
+    match format_lent(frame.source, frame.image, store, used, out, choice) {
         Ok(text) => Row {
             number: 0,
             place: 0,
@@ -50,7 +56,14 @@ fn write_row(table: &mut [u32], at: usize, row: Row)
 
 // Writes the rows and the texts of all files.
 #[tactic(auto, using(crate::proofs::Texts::putting_none, crate::proofs::Texts::frame_row))]
-pub(crate) fn write_saves(frames: &[u8], table: &mut [u32], out: &mut [u8], choice: FileChoice)
+pub(crate) fn write_saves(
+    frames: &[u8],
+    store: &mut [u32; ROW_CELLS],
+    used: &mut [u8; MARKS],
+    table: &mut [u32],
+    out: &mut [u8],
+    choice: FileChoice,
+)
     requires { Room (to_choice choice) frames.now table.old out.old }
     ensures { Written (to_choice choice) frames.now table.old out.old table.new out.new }
 {
@@ -59,7 +72,7 @@ pub(crate) fn write_saves(frames: &[u8], table: &mut [u32], out: &mut [u8], choi
     let mut cell = 0;
     let mut text = 0;
     for frame in Frames::new(frames) {
-        let row = write_text(&frame, &mut out[text..], choice);
+        let row = write_text(&frame, store, used, &mut out[text..], choice);
         write_row(table, cell, row);
         text += row.bytes;
         cell += CELLS;

@@ -3,6 +3,7 @@
 use mathlib.Core.Path.{◌≡◌, sym, ap, ap₂, ◌∙◌}
 use mathlib.Core.Bool.{Bool, true, false, not}
 use Rattle.std.specs.Prelude.{Option, None, Some, Result, Ok, Err}
+use Rattle.std.proofs.lemmas.Result.{IfOk-at_ok}
 use mathlib.Core.List.{List, [], ◌∷◌}
 use Prim.Native.Nat.{ℕ, ◌≤◌, ◌<◌}
 use borrow.Author.Tests.{lt-ltb, le-ltb, not-true, not-false}
@@ -26,7 +27,6 @@ use Rattle.cut_rule.specs.Limits.{MAX_ALLOTMENT}
 use Rattle.cut_rule.specs.Parts.{read_from, with_cleared, rule_line, width_line, before_marks}
 use Rattle.cut_rule.proofs.Answers.{LaidBy, laid_by, written_by}
 use Rattle.whole_run.specs.Parts.{other_rule, parts_of, widest_drawn}
-use Rattle.whole_run.specs.Built as built_by
 use Rattle.whole_run.specs.Built.{FileChoice, layout_choice, render_choice, declared, built, rows_due, drawn_due, column_due}
 use Rattle.whole_run.specs.Demands.{rules_of, closing_at}
 use Rattle.whole_run.specs.File.{mode_line, file_rows, file_marks, file_before_rows, laid_refusal, refusal_in, file_refusal, file_result}
@@ -35,7 +35,7 @@ use Rattle.whole_run.proofs.FileTable.{stops_laid, stops_whole}
 use Rattle.whole_run.proofs.File.{state_due, rendered_due, entered_due, layout_answer_due, layout_store_due}
 use Rattle.whole_run.proofs.File.{render_early_due, render_answer_due, render_marks_due, render_output_due, render_widest_due}
 use Rattle.layout_call.specs.Calls as layouts
-use Rattle.layout_call.specs.Whole.{LayoutCalled}
+use Rattle.layout_call.specs.Whole.{LaidAtOnce}
 use Rattle.layout_call.specs.declared.LayoutState.{LayoutState}
 use Rattle.layout_call.specs.declared.LayoutArgs.{LayoutArgs}
 use Rattle.layout_call.specs.declared.Laid.{Laid}
@@ -120,49 +120,46 @@ module _ (s b : List ℕ) (c : FileChoice) where
     abbrev laid : Option Refusal
     laid = laid_refusal s b c (tests.rows_in store)
 
-    -- refused by the layout call, or before it
-    laid_refused : (why : Refused) (store2 : List ℕ) → laid ≡ Some (refusal why) → store2 ≡ store_left s b c store
-        → RunsFile s b c store marks out (Err why) store2 marks out
-    laid_refused why store2 e h =
+    -- refused by the layout call, or before it: what is in the store then is not said
+    laid_refused : (why : Refused) (store2 : List ℕ) → laid ≡ Some (refusal why) → RunsFile s b c store marks out (Err why) store2 marks out
+    laid_refused why store2 e =
         let r = stops_whole s b c (refusal why) (tests.rows_in store) (length marks) (length out) e in
         record {
           answer = sym (ap (λ (x : Option Refusal). answer_by x (file_result s b c)) r);
           widest = sym (ap (λ (x : Option Refusal). unless x 0 (column_due s b c)) r);
-          store_left_of = h;
+          store_laid = tt;
           marks_left_of = sym (ap (λ (x : Option Refusal). unless x marks (write_front (drawn_due s b c).marks marks)) r);
           output_left_of = sym (ap (λ (x : Option Refusal). unless x out (write_front (drawn_due s b c).text out)) r);
         }
 
-    -- refused before the layout call: the rows stay as they were
+    -- refused before the layout call
     pub before_layout : (why : Refused) → first (file_before_rows s b c) ≡ Some (refusal why) → RunsFile s b c store marks out (Err why) store marks out
-    before_layout why e =
-        let r = stops_laid s b c (refusal why) (tests.rows_in store) e in
-        laid_refused why store r (sym (ap (λ (y : Option Refusal). unless y store (write_front (rows (built_by.laid s b c) 0) store)) r))
+    before_layout why e = laid_refused why store (stops_laid s b c (refusal why) (tests.rows_in store) e)
 
     -- ---- the layout call, where none of these lines refuses
     module _ (passed : first (file_before_rows s b c) ≡ None) (state : LayoutState) (q : LayoutArgs) (r : Result Laid Refused) (store2 : List ℕ)
         (fresh : layouts.to_state state ≡ layout_fresh) (all : layouts.to_args q ≡ closing_at (layout_choice c) (length (declared s b)))
-        (call : LayoutCalled s b state q store r store2) where
+        (call : LaidAtOnce s b state q store r store2) where
       layout_answer_lem : layouts.laying_answer s b r ≡ answer_by laid (laid_out (state_due s b c) (file_result s b c).left)
       layout_answer_lem =
           call.answer
           ∙ ap₂ (λ (t : states.LayoutState) (x : rules.LayoutArgs states.LayoutChoice). layout_answer (rules_of s b) x t store) fresh all
           ∙ layout_answer_due s b c passed store
 
-      layout_left : store2 ≡ store_left s b c store
-      layout_left =
-          call.store_left_of
-          ∙ ap₂ (λ (t : states.LayoutState) (x : rules.LayoutArgs states.LayoutChoice). layout_store (rules_of s b) x t store) fresh all
-          ∙ layout_store_due s b c passed store
-
       pub layout_refused : (why : Refused) → r ≡ Err why → RunsFile s b c store marks out (Err why) store2 marks out
       layout_refused why e =
-          laid_refused why store2 (refused_by laid _ (refusal why) (ap (layouts.laying_answer s b) (sym e) ∙ layout_answer_lem)) layout_left
+          laid_refused why store2 (refused_by laid _ (refusal why) (ap (layouts.laying_answer s b) (sym e) ∙ layout_answer_lem))
 
       -- ---- the rendering call
       module _ (t : Laid) (is : r ≡ Ok t) (pen : RenderState) (listed : List ℕ) (blank : renders.to_state pen listed ≡ render_fresh) where
         laid_out_lem : LaidBy (rules_of s b) laid (layouts.to_state t.state) t.left (state_due s b c) (file_result s b c).left
         laid_out_lem = laid_by (rules_of s b) laid _ t.left (state_due s b c) _ (ap (layouts.laying_answer s b) (sym is) ∙ layout_answer_lem)
+
+        layout_left : store2 ≡ store_left s b c store
+        layout_left =
+            IfOk-at_ok (λ (x : Laid). store2 ≡ layout_store (rules_of s b) (layouts.to_args q) (layouts.to_state state) store) is call.store_laid
+            ∙ ap₂ (λ (t : states.LayoutState) (x : rules.LayoutArgs states.LayoutChoice). layout_store (rules_of s b) x t store) fresh all
+            ∙ layout_store_due s b c passed store
 
         to_row : t.state.row ≡ rows_due s b c
         to_row = ap (λ (x : states.LayoutState). x.cursor.row) laid_out_lem.state
@@ -230,7 +227,7 @@ module _ (s b : List ℕ) (c : FileChoice) where
               record {
                 answer = sym (ap (λ (x : Option Refusal). answer_by x (file_result s b c)) r);
                 widest = ap renders.widest_of (sym e) ∙ widest_same;
-                store_left_of = store_same;
+                store_laid = tt;
                 marks_left_of = marks_same;
                 output_left_of = output_same;
               }
@@ -251,7 +248,7 @@ module _ (s b : List ℕ) (c : FileChoice) where
                     (λ i. accepted (record { bytes = w.bytes i; left = laid_out_lem.left i; rows = to_row i; numbers = number i }))
                     ∙ sym (ap (λ (x : Option Refusal). answer_by x (file_result s b c)) w.passes);
                 widest = ap renders.widest_of (sym e) ∙ widest_same;
-                store_left_of = store_same;
+                store_laid = store_same;
                 marks_left_of = marks_same;
                 output_left_of = output_same;
               }

@@ -1,6 +1,6 @@
 -- What the run of one file, or of one frame, answers and leaves: rows and marks are its own, the output is lent. Below it stands the run in
 -- rows and marks that are lent too.
-use Rattle.std.specs.Prelude.{◌≡◌, Bool, not, ◌&&◌, List, [], ◌∷◌, ℕ, ◌+◌, leb, length, take, drop, Option, Result, Ok, Err}
+use Rattle.std.specs.Prelude.{◌≡◌, Bool, not, ◌&&◌, List, [], ◌∷◌, ℕ, ◌+◌, leb, length, take, drop, Option, Result, Ok, Err, IfOk}
 use Rattle.image.specs.Bytes.{be32}
 use Rattle.refusals.specs.Refusals.{Refusal, unless, first, refuse_if}
 use Rattle.refusals.specs.Answers.{Answer, answer_by}
@@ -35,13 +35,13 @@ abbrev pub widest_of : Result Run Refused → ℕ
 widest_of (Ok r) = r.widest.0
 widest_of (Err r) = 0
 
--- the answer with the greatest column, and store, marks and output at exit, for one source and image and what the caller chose: where the run
--- stops after the layout call, `store_left` has its rows
+-- the answer with the greatest column, and marks and output at exit, for one source and image and what the caller chose; the store's rows where
+-- the run doesn't stop: where it does, what is in the store is not said
 pub record RunsFile (source image : List ℕ) (choice : plain.FileChoice) (store marks out : List ℕ) (r : Result Run Refused)
     (store2 marks2 out2 : List ℕ) : Type 0 where
   pub answer : formatted_answer (formatted_of r) ≡ answer_in source image choice (rows_in store) (length marks) (length out)
   pub widest : widest_of r ≡ unless (refusal_in source image choice (rows_in store) (length marks) (length out)) 0 (column_due source image choice)
-  pub store_left_of : store2 ≡ store_left source image choice store
+  pub store_laid : IfOk r (λ t. store2 ≡ store_left source image choice store)
   pub marks_left_of : marks2 ≡ marks_left source image choice store marks out
   pub output_left_of : out2 ≡ output_left source image choice store marks out
 

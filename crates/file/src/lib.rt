@@ -17,7 +17,7 @@ use image::bytes::num32;
 use layout_call::accepted::Accepted;
 use layout_call::modes::{NEW_MODE, OLD_MODE};
 use layout_call::steps::count_declarations;
-use layout_call::{LayoutArgs, LayoutState, layout_accepted};
+use layout_call::{LayoutArgs, LayoutState, layout_at_once};
 use refusals::{Reason, Refused};
 use render_call::call::Call;
 use render_call::width::width_fits;
@@ -91,8 +91,8 @@ pub fn marks() -> [u8; MARKS]
     [0; MARKS]
 }
 
-/// A file that is accepted, in rows and marks that are lent: all declarations in one layout call, all rows in one rendering call. It is no entry:
-/// where it stops, rows of it may stand in the store.
+/// A file that is accepted, in rows and marks that are lent: all declarations in one layout call, for which no rows are counted first, and all rows in
+/// one rendering call. It is no entry: where it stops, rows of it may stand in the store, those that have room.
 pub fn run_file(
     file: Accepted<'_>,
     store: &mut [u32],
@@ -118,7 +118,7 @@ pub fn run_file(
         rule: choice.rule,
         archive: false,
     };
-    let laid = layout_accepted(file, store, LayoutState::default(), all)?;
+    let laid = layout_at_once(file, store, LayoutState::default(), all)?;
     // kept: field by field: a `Call` of rendering takes any source and image, as C lends them, and no `Accepted`.
     let call = Call {
         source: file.parsed.source,
@@ -144,7 +144,23 @@ pub fn run_file(
     })
 }
 
-// A file that is accepted, with rows and marks of its own: the rows of a file that 9 or 10 refuses can't be taken back out of a lent store.
+// A file that is accepted, in 1,800 rows and marks, whatever they hold: layout writes the rows that it needs, and rendering clears the marks.
+fn format_in(
+    file: Accepted<'_>,
+    store: &mut [u32; CELLS],
+    used: &mut [u8; MARKS],
+    out: &mut [u8],
+    choice: FileChoice,
+) -> Result<Text, Refused>
+    requires rule { of_file RuleFits file choice.rule }
+    requires read { of_file Reads file false }
+    ensures { Formats file.entry.parsed.source.now file.entry.parsed.image.now (to_choice choice) out.old result out.new }
+{
+    let run = run_file(file, store, used, out, choice)?;
+    Ok(run.text)
+}
+
+// The same with rows and marks of its own: the rows of a file that 9 or 10 refuses can't be taken back out of a lent store.
 fn format_accepted(file: Accepted<'_>, out: &mut [u8], choice: FileChoice) -> Result<Text, Refused>
     requires rule { of_file RuleFits file choice.rule }
     requires read { of_file Reads file false }
@@ -152,8 +168,7 @@ fn format_accepted(file: Accepted<'_>, out: &mut [u8], choice: FileChoice) -> Re
 {
     let mut store = rows();
     let mut used = marks();
-    let run = run_file(file, &mut store, &mut used, out, choice)?;
-    Ok(run.text)
+    format_in(file, &mut store, &mut used, out, choice)
 }
 
 /// Formats a file as its caller chooses, or refuses to and leaves the output as it was.
@@ -168,6 +183,22 @@ pub fn format_file(
     rule_chosen(image, choice.rule)?;
     let file = Accepted::check(source, image, false)?;
     format_accepted(file, out, choice)
+}
+
+/// The same in rows and marks that are lent, so that who formats many files clears them once. What they hold at exit is not said.
+pub fn format_lent(
+    source: &[u8],
+    image: &[u8],
+    store: &mut [u32; CELLS],
+    used: &mut [u8; MARKS],
+    out: &mut [u8],
+    choice: FileChoice,
+) -> Result<Text, Refused>
+    ensures { Formats source.now image.now (to_choice choice) out.old result out.new }
+{
+    rule_chosen(image, choice.rule)?;
+    let file = Accepted::check(source, image, false)?;
+    format_in(file, store, used, out, choice)
 }
 
 /// Formats the file of a frame, as the program does: four bytes source length, source, image.

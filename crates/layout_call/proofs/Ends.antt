@@ -1,15 +1,15 @@
--- A layout call by its ends: rule refused, source or image refused, state refused, too few rows, laid.
+-- A layout call by its ends: rule refused, source or image refused, state refused, too few rows, laid; where rows are counted first, and where not.
 -- Assumes nothing.
 use mathlib.Core.Path.{◌≡◌, refl, sym, ap, ap₂, ◌∙◌}
 use mathlib.Core.Bool.{Bool, true, false, not, cond}
 use Rattle.std.specs.Prelude.{Option, None, Some, Result, Ok, Err}
 use mathlib.Core.List.{List, [], ◌∷◌}
-use Prim.Native.Nat.{ℕ, ◌+◌, ◌-◌, ◌*◌, ◌≤◌}
+use Prim.Native.Nat.{ℕ, ◌+◌, ◌-◌, ◌*◌, ◌≤◌, ◌<◌}
 use native.Mathlib.Omega.{arith}
 use lib.ListN.{length, take, drop}
 use lib.Seq.{sets, length-sets}
 use lib.Dec.{ltb, eqb}
-use borrow.Author.Tests.{le-ltb, ltb-false, not-true, not-false}
+use borrow.Author.Tests.{lt-ltb, le-ltb, ltb-false, not-true, not-false}
 use Rattle.rows.specs.Places.{PLACES}
 use Rattle.image.specs.Read.{read_all, read_earlier, read_refusal, Accepts}
 use Rattle.image.specs.declared.Document.{Document}
@@ -30,7 +30,7 @@ use Rattle.refusals.proofs.Groups.{refuses_left, left_to}
 use Rattle.cut_rule.specs.Run.{write_at, CallResult, laid_out}
 use Rattle.cut_rule.specs.States as states
 use Rattle.cut_rule.specs.Tests.{rows_in, layout_tests_in}
-use Rattle.cut_rule.specs.Parts.{Piece, rule_line, layout_tests, before_rows, rows_line, layout_table, rows_needed, call_piece, laid_of}
+use Rattle.cut_rule.specs.Parts.{Piece, rule_line, before_rows, rows_line, layout_table, rows_needed, call_piece, laid_of}
 use Rattle.cut_rule.proofs.Memory.{write_sets}
 use Rattle.cut_rule.proofs.Table.{LayoutFits, layout_fits}
 use Rattle.whole_run.specs.Parts.{other_rule, keeps_waiting, parts_of, act_piece}
@@ -42,11 +42,12 @@ use Rattle.node_widths.specs.Summed.{str_columns, laid_nodes}
 use Rattle.row_widths.specs.Passes.{pass, row_summed}
 use Rattle.row_widths.proofs.Summing.{summed_rows}
 use Rattle.layout_call.specs.Calls.{to_state, to_args, laying_answer}
-use Rattle.layout_call.specs.Whole.{LayoutCalled}
-use Rattle.layout_call.specs.Steps.{RuleFits, Reads, Goes, StateFits, Roomy, from_of, missing, call_act}
+use Rattle.layout_call.specs.Whole.{LayoutCalled, LaidAtOnce}
+use Rattle.layout_call.specs.Steps.{RuleFits, Reads, unfit, Goes, StateFits, from_of, missing, call_act}
 use Rattle.layout_call.specs.declared.LayoutState.{LayoutState}
 use Rattle.layout_call.specs.declared.LayoutArgs.{LayoutArgs}
 use Rattle.layout_call.specs.declared.Laid as declared
+use Rattle.refusals.specs.Reasons.{refusal}
 use Rattle.refusals.specs.declared.Refused.{Refused}
 use Rattle.refusals.specs.declared.Reason.TheVariants as reason
 use Rattle.layout_call.proofs.Standing.{comments_count}
@@ -64,8 +65,8 @@ module _ (s b : List ℕ) (state : LayoutState) (q : LayoutArgs) (store : List �
   abbrev gives : cut.LayoutResult states.LayoutState
   gives = laid_of (parts_of s b) (to_state state) (to_args q)
 
-  abbrev unfit : Bool
-  unfit = any (layout_tests (parts_of s b) (to_args q) (to_state state) store)
+  abbrev refuses : Bool
+  refuses = unfit s b state q store
 
   abbrev needed : ℕ
   needed = rows_needed (parts_of s b) (to_args q) (to_state state)
@@ -75,10 +76,10 @@ module _ (s b : List ℕ) (state : LayoutState) (q : LayoutArgs) (store : List �
   unread = cond q.archive (read_refusal (read_earlier s b)) (read_refusal (read_all s b))
 
   -- the lines before 8, and 8 where these let pass
-  before_from : (o : Option Refusal) → rule_line (other_rule b q.rule) q.rule ≡ o → first before ≡ first (o ∷ unread ∷ refuse_if unfit 12 0 ∷ [])
-  before_from o e = ap (λ (x : Option Refusal). first (x ∷ unread ∷ refuse_if unfit 12 0 ∷ [])) e
+  before_from : (o : Option Refusal) → rule_line (other_rule b q.rule) q.rule ≡ o → first before ≡ first (o ∷ unread ∷ refuse_if refuses 12 0 ∷ [])
+  before_from o e = ap (λ (x : Option Refusal). first (x ∷ unread ∷ refuse_if refuses 12 0 ∷ [])) e
 
-  before_by : (t : Bool) → RuleFits s b q.rule → Reads s b q.archive → unfit ≡ t → first before ≡ first (refuse_if t 12 0 ∷ [])
+  before_by : (t : Bool) → RuleFits s b q.rule → Reads s b q.archive → refuses ≡ t → first before ≡ first (refuse_if t 12 0 ∷ [])
   before_by t g e f =
       before_from None g
       ∙ ap₂ (λ (x : Option Refusal) (y : Bool). first (x ∷ refuse_if y 12 0 ∷ [])) (sym (refusal_by q.archive s b) ∙ e) f
@@ -96,24 +97,25 @@ module _ (s b : List ℕ) (state : LayoutState) (q : LayoutArgs) (store : List �
         store_left_of = ap (λ (t : Option Refusal). unless t store (write_at (PLACES * state.row) gives.rows store)) (sym e);
       }
 
+  -- of a refusal no store is told
+  pub at_once_refused : (r : Refused) (store2 store3 : List ℕ) → LayoutCalled s b state q store (Err r) store2
+      → LaidAtOnce s b state q store (Err r) store3
+  at_once_refused r store2 store3 h = record { answer = h.answer; store_laid = tt }
+
+  -- so, by what the test of the state answers, 12 refuses it or lets it pass
+  pub fits_unless : RuleFits s b q.rule → Reads s b q.archive → (x : Bool) → x ≡ not refuses → x ≡ true → StateFits s b state q store
+  fits_unless g r x e h = record { chosen = g; read = r; tested = not-true refuses (sym e ∙ h) }
+
+  -- 12
+  pub ends_unfit : RuleFits s b q.rule → Reads s b q.archive → (x : Bool) → x ≡ not refuses → x ≡ false
+      → LayoutCalled s b state q store (Err (record { reason = reason.State; place = 0 })) store
+  ends_unfit g r x e h = refused_by _ _ (refuses_left _ before behind (before_by true g r (not-false refuses (sym e ∙ h)))) refl
+
   module _ {d : Document} (a : Accepts s b d) where
     -- what the test of the state answers, by how much there is of all
-    fits_told : (x : Bool) (declarations : ℕ) → declarations ≡ length (declared s b)
-        → x ≡ not (any (layout_tests_in declarations d.comments (length s) (rows_in store) (to_args q) (to_state state))) → x ≡ not unfit
+    pub fits_told : (x : Bool) (declarations : ℕ) → declarations ≡ length (declared s b)
+        → x ≡ not (any (layout_tests_in declarations d.comments (length s) (rows_in store) (to_args q) (to_state state))) → x ≡ not refuses
     fits_told x declarations e f = rw (sym e, comments_count a) f
-
-    -- so, by what it answers, 12 refuses the state or lets it pass
-    pub fits_unless : RuleFits s b q.rule → Reads s b q.archive → (x : Bool) (declarations : ℕ) → declarations ≡ length (declared s b)
-        → x ≡ not (any (layout_tests_in declarations d.comments (length s) (rows_in store) (to_args q) (to_state state))) → x ≡ true
-        → StateFits s b state q store
-    fits_unless g r x declarations e f h = record { chosen = g; read = r; tested = not-true unfit (sym (fits_told x declarations e f) ∙ h) }
-
-    -- 12
-    pub ends_unfit : RuleFits s b q.rule → Reads s b q.archive → (x : Bool) (declarations : ℕ) → declarations ≡ length (declared s b)
-        → x ≡ not (any (layout_tests_in declarations d.comments (length s) (rows_in store) (to_args q) (to_state state))) → x ≡ false
-        → LayoutCalled s b state q store (Err (record { reason = reason.State; place = 0 })) store
-    ends_unfit g r x declarations e f h =
-        refused_by _ _ (refuses_left _ before behind (before_by true g r (not-false unfit (sym (fits_told x declarations e f) ∙ h)))) refl
 
     module _ (fits : StateFits s b state q store) where
       passes : first before ≡ None
@@ -164,14 +166,29 @@ module _ (s b : List ℕ) (state : LayoutState) (q : LayoutArgs) (store : List �
           go true h f = let same : m ≡ needed = cc in refused_by _ _ (rows_by true m passes (sym same) (ap (ltb (rows_in store)) same ∙ h)) refl
           go false h f = absurd (cc)
 
-      pub is_roomy : None ≡ lacks → Roomy s b state q store
-      is_roomy e = record { fits = go (ltb (rows_in store) needed) refl (e ∙ ap (missing (rows_in store)) (sym needed_is)) }
+      is_roomy : None ≡ lacks → needed ≤ rows_in store
+      is_roomy e = go (ltb (rows_in store) needed) refl (e ∙ ap (missing (rows_in store)) (sym needed_is))
         where
           go : (t : Bool) → ltb (rows_in store) needed ≡ t → None ≡ cond t (Some needed) None → needed ≤ rows_in store
           go true h f = absurd (cc)
           go false h f = ltb-false (rows_in store) needed h
 
-      module _ (roomy : Roomy s b state q store) (store2 : List ℕ) (e : Cursor) (laid : Laid act store from store2 e) where
+      -- with the rows there, laying at once is what the call does
+      roomy_called : needed ≤ rows_in store → (r : Result declared.Laid Refused) (store2 : List ℕ) → LaidAtOnce s b state q store r store2
+          → LayoutCalled s b state q store r store2
+      roomy_called h (Ok t) store2 once = record { answer = once.answer; store_left_of = once.store_laid }
+      roomy_called h (Err r) store2 once =
+          let passed : table ≡ None = rows_by false needed passes refl (le-ltb (rows_in store) needed h) in
+          let laid_out_due : refused (refusal r) ≡ accepted (laid_out gives.state gives.left) =
+          once.answer ∙ ap (λ (z : Option Refusal). answer_by {A = CallResult (rules_of s b)} z (laid_out gives.state gives.left)) passed
+          in
+          absurd (cc laid_out_due)
+
+      pub counted_called : None ≡ lacks → (r : Result declared.Laid Refused) (store2 : List ℕ) → LaidAtOnce s b state q store r store2
+          → LayoutCalled s b state q store r store2
+      counted_called e = roomy_called (is_roomy e)
+
+      module _ (store2 : List ℕ) (e : Cursor) (laid : Laid act store from store2 e) where
         -- so no difference falls under 0
         pub placed_in : e.placed ≤ d.comments
         placed_in =
@@ -184,62 +201,74 @@ module _ (s b : List ℕ) (state : LayoutState) (q : LayoutArgs) (store : List �
             in
             omega (arith, ap (λ (c : Cursor). c.placed) laid.moved, w.within, comments_count a)
 
-        none_left : table ≡ None
-        none_left = rows_by false needed passes refl (le-ltb (rows_in store) needed roomy.fits)
-
         abbrev ns : Nodes
         ns = (act (st from)).nodes
 
-        room : (state.row + sizes ns) * PLACES ≤ length store
-        room = omega (arith, needed_is, roomy.fits)
-
-        -- the rows that were laid, and the sums that are put into them
+        -- the row behind what was laid is the row behind what is due, whatever the store has room for
         rows_laid : e.row ≡ state.row + sizes ns
         rows_laid = ap (λ (c : Cursor). c.row) laid.moved
 
-        pub sums_within : e.row * PLACES ≤ length store2
-        sums_within =
-            let l = length-sets store (PLACES * state.row) (rows ns state.row) in
-            omega (arith, ap length laid.stored, rows_laid, room)
+        needed_laid : needed ≡ e.row
+        needed_laid = needed_is ∙ sym rows_laid
 
-        abbrev sums : List ℕ
-        sums = pass (row_summed (str_columns q.rule s b)) (e.row - state.row) store2 state.row
+        -- 8, by that row
+        pub ends_past : (store3 : List ℕ) → rows_in store < e.row
+            → LaidAtOnce s b state q store (Err (record { reason = reason.RowsNeeded; place = e.row })) store3
+        ends_past store3 h =
+            at_once_refused _ store store3 (refused_by _ _ (rows_by true e.row passes needed_laid (lt-ltb (rows_in store) e.row h)) refl)
 
-        summed : sums ≡ sets store (PLACES * state.row) (rows (laid_nodes q.rule s b ns) state.row)
-        summed =
-            ap₂ (λ (n : ℕ) (l : List ℕ). pass (row_summed (str_columns q.rule s b)) n l state.row) (omega (arith, rows_laid)) laid.stored
-            ∙ summed_rows (str_columns q.rule s b) ns store state.row room
+        module _ (roomy : e.row ≤ rows_in store) where
+          none_left : table ≡ None
+          none_left = rows_by false e.row passes needed_laid (le-ltb (rows_in store) e.row roomy)
 
-        stored : sums ≡ write_at (PLACES * state.row) gives.rows store
-        stored =
-            summed
-            ∙ sym (write_sets (PLACES * state.row) (rows (laid_nodes q.rule s b ns) state.row) store
-            (let l = length_rows (laid_nodes q.rule s b ns) state.row in omega (arith, laid_size q.rule s b ns, room)))
-            ∙ ap (λ (p : Piece). write_at (PLACES * state.row) p.rows store) (sym due)
+          room : (state.row + sizes ns) * PLACES ≤ length store
+          room = omega (arith, rows_laid, roomy)
 
-        pub ends_laid : (store3 : List ℕ) → store3 ≡ sums → (t : LayoutState) (left : ℕ)
-            → t.begun ≡ true → t.closed ≡ q.close → t.declaration ≡ q.stop → t.row ≡ e.row
-            → t.number ≡ e.number
-            → t.placed ≡ e.placed
-            → t.position ≡ e.pos
-            → t.mode ≡ q.mode
-            → t.rule ≡ q.rule
-            → left ≡ d.comments - e.placed
-            → LayoutCalled s b state q store (Ok (record { state = t; left = left })) store3
-        ends_laid store3 summed_as t left q1 q2 q3 q4 q5 q6 q7 q8 q9 q10 =
-            record {
-              answer =
-                  (λ i. accepted (laid_out (same_state i) (same_left i)))
-                  ∙ ap (λ (z : Option Refusal). answer_by {A = CallResult (rules_of s b)} z (laid_out gives.state gives.left)) (sym none_left);
-              store_left_of = summed_as ∙ stored ∙ ap (λ (z : Option Refusal). unless z store (write_at (PLACES * state.row) gives.rows store)) (sym none_left);
-            }
-          where
-            same_state : to_state t ≡ gives.state
-            same_state =
-                rw (q1, q2, q3, q4, q5, q6, q7, q8, q9, laid.moved)
-                (ap (λ (p : Piece). record { begun = true; closed = q.close; declaration = q.stop; cursor = p.cursor; mode = q.mode; rule = q.rule }) (sym due))
+          -- the sums that are put into the rows
+          pub sums_within : e.row * PLACES ≤ length store2
+          sums_within =
+              let l = length-sets store (PLACES * state.row) (rows ns state.row) in
+              omega (arith, ap length laid.stored, rows_laid, room)
 
-            same_left : left ≡ gives.left
-            same_left =
-                rw (q10, laid.moved)
-                (ap₂ (λ (m k : ℕ). m - k) (sym (comments_count a)) (ap (λ (p : Piece). p.cursor.placed) (sym due)))
+          abbrev sums : List ℕ
+          sums = pass (row_summed (str_columns q.rule s b)) (e.row - state.row) store2 state.row
+
+          summed : sums ≡ sets store (PLACES * state.row) (rows (laid_nodes q.rule s b ns) state.row)
+          summed =
+              ap₂ (λ (n : ℕ) (l : List ℕ). pass (row_summed (str_columns q.rule s b)) n l state.row) (omega (arith, rows_laid)) laid.stored
+              ∙ summed_rows (str_columns q.rule s b) ns store state.row room
+
+          stored : sums ≡ write_at (PLACES * state.row) gives.rows store
+          stored =
+              summed
+              ∙ sym (write_sets (PLACES * state.row) (rows (laid_nodes q.rule s b ns) state.row) store
+              (let l = length_rows (laid_nodes q.rule s b ns) state.row in omega (arith, laid_size q.rule s b ns, room)))
+              ∙ ap (λ (p : Piece). write_at (PLACES * state.row) p.rows store) (sym due)
+
+          pub ends_laid : (store3 : List ℕ) → store3 ≡ sums → (t : LayoutState) (left : ℕ)
+              → t.begun ≡ true → t.closed ≡ q.close → t.declaration ≡ q.stop → t.row ≡ e.row
+              → t.number ≡ e.number
+              → t.placed ≡ e.placed
+              → t.position ≡ e.pos
+              → t.mode ≡ q.mode
+              → t.rule ≡ q.rule
+              → left ≡ d.comments - e.placed
+              → LaidAtOnce s b state q store (Ok (record { state = t; left = left })) store3
+          ends_laid store3 summed_as t left q1 q2 q3 q4 q5 q6 q7 q8 q9 q10 =
+              record {
+                answer =
+                    (λ i. accepted (laid_out (same_state i) (same_left i)))
+                    ∙ ap (λ (z : Option Refusal). answer_by {A = CallResult (rules_of s b)} z (laid_out gives.state gives.left)) (sym none_left);
+                store_laid = summed_as ∙ stored ∙ ap (λ (z : Option Refusal). unless z store (write_at (PLACES * state.row) gives.rows store)) (sym none_left);
+              }
+            where
+              same_state : to_state t ≡ gives.state
+              same_state =
+                  rw (q1, q2, q3, q4, q5, q6, q7, q8, q9, laid.moved)
+                  (ap (λ (p : Piece). record { begun = true; closed = q.close; declaration = q.stop; cursor = p.cursor; mode = q.mode; rule = q.rule })
+                  (sym due))
+
+              same_left : left ≡ gives.left
+              same_left =
+                  rw (q10, laid.moved)
+                  (ap₂ (λ (m k : ℕ). m - k) (sym (comments_count a)) (ap (λ (p : Piece). p.cursor.placed) (sym due)))

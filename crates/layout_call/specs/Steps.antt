@@ -10,8 +10,7 @@ use Rattle.comments.specs.Listed.{given}
 use Rattle.layout.specs.Closing.{call_rule}
 use Rattle.acts.specs.declared.Cursor.{Cursor}
 use Rattle.refusals.specs.Refusals.{any}
-use Rattle.cut_rule.specs.Tests.{rows_in}
-use Rattle.cut_rule.specs.Parts.{rule_line, layout_tests, rows_needed}
+use Rattle.cut_rule.specs.Parts.{rule_line, layout_tests}
 use Rattle.whole_run.specs.Parts.{other_rule, keeps_waiting, parts_of}
 use Rattle.whole_run.specs.Built.{tree, declared}
 use Rattle.layout_call.specs.Calls.{to_state, to_args}
@@ -54,12 +53,12 @@ RuleFits s b rule = rule_line (other_rule b rule) rule ≡ None
 abbrev pub Reads : List ℕ → List ℕ → Bool → Type 0
 Reads s b archive = read_refusal (read_by archive s b) ≡ None
 
+-- 12: one of its tests finds the state at fault, "place past declarations, comments, source, store" to "close elsewhere than at the end"
+abbrev pub unfit : List ℕ → List ℕ → LayoutState → LayoutArgs → List ℕ → Bool
+unfit s b state q store = any (layout_tests (parts_of s b) (to_args q) (to_state state) store)
+
 -- 20, 1 to 7 and 12 do not refuse
 pub record StateFits (s b : List ℕ) (state : LayoutState) (q : LayoutArgs) (store : List ℕ) : Type 0 where
   pub chosen : RuleFits s b q.rule
   pub read : Reads s b q.archive
-  pub tested : any (layout_tests (parts_of s b) (to_args q) (to_state state) store) ≡ false
-
--- 8 does not refuse
-pub record Roomy (s b : List ℕ) (state : LayoutState) (q : LayoutArgs) (store : List ℕ) : Type 0 where
-  pub fits : rows_needed (parts_of s b) (to_args q) (to_state state) ≤ rows_in store
+  pub tested : unfit s b state q store ≡ false

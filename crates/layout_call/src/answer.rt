@@ -1,13 +1,15 @@
-// What a call that nothing refuses lays and answers.
+// What a call whose state is accepted lays and answers.
 ghost use Rattle.std.specs.Prelude.{◌≡◌};
-ghost use Rattle.layout_call.specs.Steps.{StateFits, Roomy, from_of};
-ghost use Rattle.layout_call.specs.Whole.{LayoutCalled};
+ghost use Rattle.layout_call.specs.Steps.{StateFits, from_of};
+ghost use Rattle.layout_call.specs.Whole.{LaidAtOnce};
 ghost use Rattle.layout_call.specs.ByCall.{of_call};
 
 use crate::call::Call;
 use crate::{Laid, LayoutState};
 use acts::Cursor;
+use refusals::{Reason, Refused};
 use row_widths::lay::sum_by;
+use rows::places::PLACES;
 
 impl Call<'_> {
     // Where the call starts.
@@ -22,29 +24,33 @@ impl Call<'_> {
         }
     }
 
-    // Lays what is due, in a store that has room for it, with the sums of the rule in the rows of texts.
-    pub(crate) fn laid(&self, store: &mut [u32]) -> Laid
-        requires fits { of_call StateFits self.now store.old }
-        requires room { of_call Roomy self.now store.old }
-        ensures { of_call LayoutCalled self.now store.old (Ok result) store.new }
+    // Lays what is due, with the sums of the rule in the rows of texts. Where the store has too few rows, those that have room are laid, without sums.
+    pub(crate) fn laid(&self, store: &mut [u32]) -> Result<Laid, Refused>
+        requires { of_call StateFits self.now store.old }
+        ensures { of_call LaidAtOnce self.now store.old result store.new }
     {
+        let rows = store.len() / PLACES;
         let e = self.lay_all(store);
+        let row = e.row as usize;
+        if rows < row {
+            return Err(Reason::RowsNeeded.at(row));
+        }
         let file = self.file.parsed;
         sum_by(
             store,
             file.source,
             file.image,
             self.state.row,
-            e.row as usize,
+            row,
             self.args.rule,
         );
         let placed = e.placed as usize;
-        Laid {
+        Ok(Laid {
             state: LayoutState {
                 begun: true,
                 closed: self.args.close,
                 declaration: self.args.stop,
-                row: e.row as usize,
+                row,
                 number: e.number as usize,
                 placed,
                 position: e.pos as usize,
@@ -52,6 +58,6 @@ impl Call<'_> {
                 rule: self.args.rule,
             },
             left: self.file.doc.comments - placed,
-        }
+        })
     }
 }

@@ -10,8 +10,9 @@ pub mod modes;
 mod room;
 pub mod steps;
 
-ghost use Rattle.layout_call.specs.Steps.{RuleFits, Reads};
-ghost use Rattle.layout_call.specs.Whole.{LayoutCalled};
+ghost use Rattle.std.specs.Prelude.{◌≡◌, not};
+ghost use Rattle.layout_call.specs.Steps.{RuleFits, Reads, unfit};
+ghost use Rattle.layout_call.specs.Whole.{LayoutCalled, LaidAtOnce};
 ghost use Rattle.layout_call.specs.ByFile.{of_file};
 
 use crate::accepted::Accepted;
@@ -55,6 +56,19 @@ pub struct Laid {
     pub left: usize,
 }
 
+// Whether 12 lets the state pass.
+fn call_fits(file: Accepted<'_>, state: LayoutState, args: LayoutArgs, store: &[u32]) -> bool
+    ensures { result ≡ not (of_file unfit file.entry state args store.now) }
+{
+    let within = Within {
+        declarations: count_declarations(file),
+        comments: file.doc.comments,
+        size: file.parsed.source.len(),
+        rows: store.len() / PLACES,
+    };
+    state_fits(state, args, within)
+}
+
 /// A call on a source and an image that its entry accepts, by a rule that 20 does not refuse.
 pub fn layout_accepted(
     file: Accepted<'_>,
@@ -66,20 +80,32 @@ pub fn layout_accepted(
     requires read { of_file Reads file args.archive }
     ensures { of_file LayoutCalled file.entry state args store.old result store.new }
 {
-    let within = Within {
-        declarations: count_declarations(file),
-        comments: file.doc.comments,
-        size: file.parsed.source.len(),
-        rows: store.len() / PLACES,
-    };
-    if !state_fits(state, args, within) {
+    if !call_fits(file, state, args, store) {
         return Err(Reason::State.at(0));
     }
     let call = Call { file, state, args };
-    if let Some(needed) = call.rows_missing(within.rows) {
+    if let Some(needed) = call.rows_missing(store.len() / PLACES) {
         return Err(Reason::RowsNeeded.at(needed));
     }
-    Ok(call.laid(store))
+    call.laid(store)
+}
+
+/// The same in a store of the caller's own, for which nothing is counted first: where 8 refuses, the rows that have room stand in it.
+pub fn layout_at_once(
+    file: Accepted<'_>,
+    store: &mut [u32],
+    state: LayoutState,
+    args: LayoutArgs,
+) -> Result<Laid, Refused>
+    requires rule { of_file RuleFits file args.rule }
+    requires read { of_file Reads file args.archive }
+    ensures { of_file LaidAtOnce file.entry state args store.old result store.new }
+{
+    if !call_fits(file, state, args, store) {
+        return Err(Reason::State.at(0));
+    }
+    let call = Call { file, state, args };
+    call.laid(store)
 }
 
 /// Lays a document out from its next declaration up to a stop, and closes it or not; or refuses to, and leaves the store as it was.

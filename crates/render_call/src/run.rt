@@ -72,10 +72,12 @@ impl Call<'_> {
             out,
             max: self.args.width,
             writing: self.start_text(),
-            frames: open_rows(store, &listed[..self.state.listed_rows], self.state.row),
+            frames: Frames::new(),
             next: self.state.row,
             mark: 0,
         };
+        let rows = &listed[..self.state.listed_rows];
+        open_rows(&mut renderer.frames, store, rows, self.state.row);
         let entered = self.go_on(&mut renderer, store, listed);
         Halt {
             writing: renderer.writing,

@@ -1,14 +1,17 @@
-//! What the programs share that write files, `save`, the hook and
-//! `reference/fmt`: their words, what they say, their status, and the one rule
-//! by which a file is replaced.
+//! What the programs share, `save`, the hook, the report and `reference/fmt`:
+//! their words, which files paths name, what they say, their status, and the
+//! one rule by which a file is replaced.
 
 // None of them uses all of it.
 #![allow(dead_code)]
 
+pub mod diff;
+pub mod find;
 pub mod frame;
 pub mod order;
 pub mod put;
 pub mod report;
+pub mod shown;
 pub mod target;
 
 use std::{ffi::OsString, io::Write};
@@ -29,7 +32,6 @@ pub fn run(
         Ok(order) => {
             report.check = order.check;
             work(&order, &mut report);
-            report.sum_up();
         }
         Err(Stop::Help) => report.say(&program.help()),
         Err(Stop::Fault(why)) => report.blame(&program.fault(&why)),

@@ -1,19 +1,25 @@
 //! What is to be done, by the words behind the program's name.
 
-use std::{ffi::OsString, path::PathBuf};
+use std::{
+    ffi::OsString,
+    path::{Path, PathBuf},
+};
 
 use rrufthim::{
     Comments, Options, Widths,
     limits::{MAX_LINE_WIDTH, MIN_LINE_WIDTH},
+    settings::{Settings, SettingsError},
 };
 
-use super::report::shown;
+use super::shown::shown;
 
 /// A program as its users know it.
 pub struct Program {
     pub name: &'static str,
     /// What its last line counts, one of them.
     pub counted: &'static str,
+    /// What it looks for in folders.
+    pub sought: Sought,
     pub usage: &'static str,
     /// What `--help` says besides.
     pub manual: &'static str,
@@ -21,6 +27,24 @@ pub struct Program {
     pub takes: &'static [&'static str],
     /// What is wrong with its paths, if anything is.
     pub fault_in: fn(&[PathBuf]) -> Option<String>,
+}
+
+/// The files that a program looks for in folders.
+pub struct Sought {
+    /// How their names end.
+    pub extension: &'static str,
+    /// What one of them is called.
+    pub name: &'static str,
+    /// Whether a file that is named may have any name.
+    pub any_named: bool,
+}
+
+impl Sought {
+    pub const FRAMES: Sought = Sought {
+        extension: "frame",
+        name: "frame",
+        any_named: false,
+    };
 }
 
 impl Program {
@@ -39,9 +63,25 @@ impl Program {
 #[derive(Debug, Default)]
 pub struct Order {
     pub check: bool,
+    /// With a check alone.
+    pub diff: bool,
     pub force: bool,
-    pub options: Options,
+    /// Whether files of settings are passed over.
+    pub alone: bool,
+    /// What the words choose, which goes before all settings.
+    pub chosen: Settings,
+    pub form: Form,
     pub paths: Vec<PathBuf>,
+}
+
+/// What the report writes.
+#[derive(Clone, Copy, Debug, Default, PartialEq, Eq)]
+pub enum Form {
+    #[default]
+    Table,
+    Csv,
+    /// What the program `report` reads.
+    Feed,
 }
 
 /// Why nothing is to be done.
@@ -72,6 +112,16 @@ impl Order {
         }
     }
 
+    /// What a file is formatted by: what the words choose, else what the
+    /// settings of its folder say, else the default.
+    pub fn options(&self, file: &Path) -> Result<Options, SettingsError> {
+        let found = match self.alone {
+            true => Settings::default(),
+            false => Settings::for_file(file)?,
+        };
+        Ok(self.chosen.clone().over(found).options())
+    }
+
     fn choose(
         &mut self,
         program: &Program,
@@ -82,12 +132,18 @@ impl Order {
             |word: &&str| *word == "--help" || program.takes.contains(word);
         match option.to_str().filter(taken) {
             Some("--check") => self.check = true,
+            Some("--diff") => (self.check, self.diff) = (true, true),
             Some("--force") => self.force = true,
-            Some("--as-roto") => self.options.comments = Comments::AsRoto,
-            Some("--width") => self.options.width = width(words.next())?,
-            Some("--unicode") => {
-                self.options.widths = edition(words.next())?;
+            Some("--no-settings") => self.alone = true,
+            Some("--as-roto") => {
+                self.chosen.comments = Some(Comments::AsRoto)
             }
+            Some("--width") => self.chosen.width = Some(width(words.next())?),
+            Some("--unicode") => {
+                self.chosen.widths = Some(edition(words.next())?);
+            }
+            Some("--csv") => self.form = Form::Csv,
+            Some("--feed") => self.form = Form::Feed,
             Some("--help") => return Err(Stop::Help),
             _ => {
                 let option = shown(option.as_ref());

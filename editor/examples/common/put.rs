@@ -5,17 +5,21 @@
 
 use std::io;
 
+use rrufthim::Place;
+
 use super::{
+    diff,
     order::Order,
     report::{Fate, Report},
+    shown::shown,
     target::{Put, Target},
 };
 
 /// A text, and what is to be known of it before it is relied on.
 pub struct Text<'t> {
     pub bytes: &'t [u8],
-    /// How many comments it lacks.
-    pub comments_left: usize,
+    /// The comments that it lacks.
+    pub comments_left: &'t [Place],
     /// Whether it is too long to be formatted again.
     pub outgrown: bool,
 }
@@ -36,6 +40,10 @@ pub fn put(
         report.remark(target.path(), text);
     }
     report.end(target.path(), fate, words);
+    if order.diff && fate == Fate::Changed {
+        let name = shown(target.path());
+        report.show(&diff::unified(&name, target.held(), text.bytes));
+    }
 }
 
 /// What becomes of a target, and what is said of it.

@@ -7,7 +7,11 @@ use std::{
 
 use rrufthim::{Cause, FormatError};
 
-use super::{order::Program, put::Text};
+use super::{
+    order::{Program, Sought},
+    put::Text,
+    shown::shown,
+};
 
 /// The status if something is said on standard error.
 pub const FAILED: u8 = 2;
@@ -62,6 +66,11 @@ impl<'a> Report<'a> {
         }
     }
 
+    /// What the program looks for in folders.
+    pub fn sought(&self) -> &'a Sought {
+        &self.program.sought
+    }
+
     pub fn paths_failed(&self) -> usize {
         self.paths_failed
     }
@@ -70,10 +79,15 @@ impl<'a> Report<'a> {
     /// read enough: the work goes on, and so the status is the same. Any other
     /// failure is one.
     pub fn say(&mut self, words: &str) {
+        self.show(format!("{words}\n").as_bytes());
+    }
+
+    /// The same of bytes as they are.
+    pub fn show(&mut self, bytes: &[u8]) {
         if !self.open {
             return;
         }
-        let done = writeln!(self.out, "{words}");
+        let done = self.out.write_all(bytes);
         if let Err(error) = done.and_then(|()| self.out.flush()) {
             self.open = false;
             if error.kind() != io::ErrorKind::BrokenPipe {
@@ -117,23 +131,24 @@ impl<'a> Report<'a> {
     /// A frame that the formatter refuses: number and place of the refusal,
     /// and the words for it.
     pub fn refuse(&mut self, frame: &Path, error: &FormatError) {
-        let words = match &error.cause {
-            Cause::Refused(refusal) => {
-                let (number, place) = (refusal.number(), refusal.place());
-                format!("refused {number} at {place}: {error}")
-            }
-            _ => error.to_string(),
-        };
-        self.end(frame, Fate::Refused, &words);
+        self.end(frame, Fate::Refused, &refused(error));
     }
 
     /// What is to be known of a text before it is relied on.
     pub fn remark(&mut self, target: &Path, text: &Text<'_>) {
         let target = shown(target);
         match text.comments_left {
-            0 => {}
-            1 => self.say(&format!("{target}: 1 comment is left out")),
-            n => self.say(&format!("{target}: {n} comments are left out")),
+            [] => {}
+            [one] => {
+                self.say(&format!("{target}: {one}: 1 comment is left out"));
+            }
+            [first, ..] => {
+                let count = text.comments_left.len();
+                let words = format!("{count} comments are left out");
+                self.say(&format!(
+                    "{target}: {first}: {words}, the first here"
+                ));
+            }
         }
         if text.outgrown {
             self.say(&format!("{target}: too long to be formatted again"));
@@ -180,15 +195,17 @@ impl<'a> Report<'a> {
     }
 }
 
-fn plural(count: usize) -> &'static str {
-    if count == 1 { "" } else { "s" }
+/// Number and place of a refusal, and the words for it.
+pub fn refused(error: &FormatError) -> String {
+    match &error.cause {
+        Cause::Refused(refusal) => {
+            let (number, place) = (refusal.number(), refusal.place());
+            format!("refused {number} at {place}: {error}")
+        }
+        _ => error.to_string(),
+    }
 }
 
-/// A path on one line, and so that it can be told from every other: with
-/// escapes, if it isn't UTF-8 or has control characters.
-pub fn shown(path: &Path) -> String {
-    match path.to_str() {
-        Some(name) if !name.contains(char::is_control) => name.to_owned(),
-        _ => format!("{path:?}"),
-    }
+fn plural(count: usize) -> &'static str {
+    if count == 1 { "" } else { "s" }
 }

@@ -9,7 +9,7 @@ use std::{
     process,
 };
 
-use super::report::shown;
+use super::shown::shown;
 
 /// For its owner alone, until the new file has the mode of the old one.
 const PRIVATE: u32 = 0o600;

@@ -15,12 +15,13 @@ use crate::{
 ///
 /// A step that can be told to be wrong without the grammar is turned down at
 /// once, and isn't added: a comment that is empty, reversed, before the end of
-/// the one before, too late or one too many, a reversed span, a record 65 deep, a text or a payload byte that
-/// is missing or has no record of its kind, a number that an image has no
-/// bytes for, a step outside the tree. Which
-/// kinds there are, where they may stand, and which payload bytes, is for the
-/// proved writer to say, by [`check`](Self::check) at any time and by
-/// [`finish`](Self::finish) in the end.
+/// the one before, too late or one too many, a reversed span, a record 65
+/// deep, a text or a payload byte that is missing or has no record of its
+/// kind, a number that an image has no bytes for, a step outside the tree.
+/// Which kinds there are, where they may stand, which payload bytes, and
+/// whether a child is missing is for the proved writer to say, by
+/// [`check`](Self::check) at any time and by [`finish`](Self::finish) in the
+/// end. [`explain`](super::explain) has words for what either says.
 #[derive(Clone, Debug)]
 pub struct Builder {
     list: Vec<u8>,

@@ -3,13 +3,14 @@
 use super::Step;
 use crate::{
     calls::refused,
+    error::FormatError,
     file::File,
     linked::{self, sizes},
     refusal::Refusal,
 };
 
-/// Writes the image, of version 1, of a list of steps into the output, from its start on,
-/// and says how many bytes it has.
+/// Writes the image, of version 1, of a list of steps into the output, from
+/// its start on, and says how many bytes it has.
 ///
 /// # Errors
 ///
@@ -20,12 +21,13 @@ pub fn write_image(list: &[u8], output: &mut [u8]) -> Result<usize, Refusal> {
     written(out)
 }
 
-/// Writes the list of the steps of an image of version 1 into the output, from its start
-/// on, and says how many bytes it has.
+/// Writes the list of the steps of an image of version 1 into the output, from
+/// its start on, and says how many bytes it has.
 ///
 /// # Errors
 ///
-/// Refusals 1 to 7 (3 for an image of version 2 too), 17, each of which leaves the output as it was.
+/// Refusals 1 to 7 (3 for an image of version 2 too), 17, each of which leaves
+/// the output as it was.
 pub fn write_list(
     file: File<'_>,
     output: &mut [u8],
@@ -56,13 +58,14 @@ fn written(out: [u64; 2]) -> Result<usize, Refusal> {
 ///
 /// # Errors
 ///
-/// Refusals 1 to 7, 3 for an image of version 2 too.
-pub fn steps(file: File<'_>) -> Result<Vec<Step>, Refusal> {
+/// Refusals 1 to 7, 3 for an image of version 2 too, in words for people.
+pub fn steps(file: File<'_>) -> Result<Vec<Step>, FormatError> {
     // The steps of a text record without text take most for their bytes of
     // image: 18 for 15.
     let mut list = vec![0; file.image.len() + file.image.len() / 5];
-    let bytes = write_list(file, &mut list)?;
-    read(&list[..bytes])
+    let written = write_list(file, &mut list);
+    let steps = written.and_then(|bytes| read(&list[..bytes]));
+    steps.map_err(|refusal| file.error(refusal))
 }
 
 /// The steps that a list holds, whether or not an image can be written from

@@ -1,4 +1,5 @@
-//! Folders of frames, and what the hook says of them.
+//! Folders of frames, and what a program says of them: the hook, or the
+//! report.
 
 use std::{
     ffi::OsString,
@@ -19,8 +20,8 @@ pub(crate) struct Folder(pub(crate) PathBuf);
 
 impl Folder {
     pub(crate) fn new(name: &str) -> Self {
-        let root = concat!(env!("CARGO_TARGET_TMPDIR"), "/hook");
-        let path = PathBuf::from(root).join(name);
+        let root = PathBuf::from(env!("CARGO_TARGET_TMPDIR"));
+        let path = root.join(env!("CARGO_CRATE_NAME")).join(name);
         if path.exists() {
             fs::remove_dir_all(&path).expect("its own");
         }
@@ -73,14 +74,14 @@ impl Folder {
         names
     }
 
-    /// The hook with these words, on the whole folder.
-    pub(crate) fn hook(&self, words: &[&str]) -> Said {
+    /// The program with these words, on the whole folder.
+    pub(crate) fn run(&self, words: &[&str]) -> Said {
         let words = words.iter().map(OsString::from);
-        hook(words.chain([self.0.clone().into()]))
+        said(words.chain([self.0.clone().into()]))
     }
 }
 
-/// What the hook said, and its status.
+/// What the program said, and its status.
 #[derive(Debug, PartialEq, Eq)]
 pub(crate) struct Said {
     pub(crate) status: u8,
@@ -95,7 +96,7 @@ impl Said {
     }
 }
 
-pub(crate) fn hook(words: impl Iterator<Item = OsString>) -> Said {
+pub(crate) fn said(words: impl Iterator<Item = OsString>) -> Said {
     let (mut out, mut err) = (Vec::new(), Vec::new());
     let status = example::run(words, &mut out, &mut err);
     let lines = |bytes| {

@@ -9,8 +9,10 @@ mod support;
 #[path = "../../examples/hook/main.rs"]
 mod example;
 
+mod diff;
 mod folder;
 mod paths;
+mod settings;
 mod targets;
 mod texts;
 mod words;

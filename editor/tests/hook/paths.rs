@@ -7,10 +7,10 @@ use std::{
     path::{Path, PathBuf},
 };
 
-use super::folder::{Folder, LINE, Said, WIDE, hook};
+use super::folder::{Folder, LINE, Said, WIDE, said};
 
 fn hook_paths(paths: &[PathBuf]) -> Said {
-    hook(paths.iter().map(OsString::from))
+    said(paths.iter().map(OsString::from))
 }
 
 /// A check of nothing doesn't pass.
@@ -23,7 +23,7 @@ fn paths_without_a_frame_are_named() {
     for name in ["empty", "scripts"] {
         let path = folder.path(name);
         for word in ["--check", "--"] {
-            let said = hook([word.into(), path.clone().into()].into_iter());
+            let said = said([word.into(), path.clone().into()].into_iter());
             assert_eq!(said.status, 2);
             let due = format!("{}: no frame in it", path.display());
             assert_eq!(said.err, [due]);
@@ -71,7 +71,7 @@ fn some_folders_are_passed_over() {
     folder.put_lines(".other/g.frame", WIDE);
     // A file of such a name is just that.
     folder.put_lines("target.frame", WIDE);
-    let said = folder.hook(&[]);
+    let said = folder.run(&[]);
     assert_eq!((said.status, said.last()), (0, "3 frames: 3 changed"));
     for name in [".git/b", "in/.git/c", "target/d", "in/target/e", "cache/f"]
     {
@@ -94,7 +94,7 @@ fn frames_are_counted_once() {
     let names = ["in/a.frame", "in/a.frame", "in/../in/a.frame", "", "link"];
     let paths = names.map(|name| folder.path(name));
     let words = paths.iter().map(OsString::from);
-    let check = hook([OsString::from("--check")].into_iter().chain(words));
+    let check = said([OsString::from("--check")].into_iter().chain(words));
     assert_eq!(
         (check.status, check.last()),
         (1, "2 frames: 2 would change")
@@ -111,7 +111,7 @@ fn linked_frames_are_their_own() {
     folder.put_lines("a.frame", WIDE);
     symlink("a.frame", folder.path("b.frame")).expect("a link");
     symlink("nowhere", folder.path("c.frame")).expect("a link");
-    let said = folder.hook(&[]);
+    let said = folder.run(&[]);
     let last = "3 frames: 2 changed, 1 failed";
     assert_eq!((said.status, said.last()), (2, last));
     assert!(said.err[0].contains("/c.frame: No such file"), "{said:?}");
@@ -145,7 +145,7 @@ fn names_of_any_bytes() {
     folder.put_lines(name(b"\xff.frame"), WIDE);
     folder.put_lines(name(b"two\nlines.frame"), WIDE);
     folder.put_lines(name(b"a.b c.frame"), WIDE);
-    let said = folder.hook(&[]);
+    let said = folder.run(&[]);
     assert_eq!((said.status, said.last()), (0, "3 frames: 3 changed"));
     assert_eq!(said.out.len(), 4, "{said:?}");
     assert!(said.out[0].ends_with("/a.b c.roto: changed"), "{said:?}");

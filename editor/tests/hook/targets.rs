@@ -36,7 +36,7 @@ fn newer_work_is_left_alone() {
         ("--check", "1 frame: 0 would change, 1 left alone"),
         ("--", "1 frame: 0 changed, 1 left alone"),
     ] {
-        let said = folder.hook(&[word]);
+        let said = folder.run(&[word]);
         assert_eq!((said.status, said.last()), (2, last));
         let due =
             "/tariff.roto: changed since its frame was made; left alone";
@@ -45,11 +45,11 @@ fn newer_work_is_left_alone() {
         assert_eq!(folder.text("tariff.roto").as_ref(), Some(&newer));
     }
 
-    let check = folder.hook(&["--check", "--force"]);
+    let check = folder.run(&["--check", "--force"]);
     assert_eq!((check.status, check.last()), (1, "1 frame: 1 would change"));
     assert!(check.out[0].contains("/tariff.roto: would be overwritten"));
     assert_eq!(folder.text("tariff.roto"), Some(newer));
-    let force = folder.hook(&["--force"]);
+    let force = folder.run(&["--force"]);
     assert_eq!((force.status, force.last()), (0, "1 frame: 1 changed"));
     assert!(
         force.out[0].contains("/tariff.roto: overwritten"),
@@ -67,7 +67,7 @@ fn shorter_and_empty_targets_are_left_alone() {
     folder.put("b.frame", FRAME);
     folder.put("a.roto", b"");
     folder.put("b.roto", &SCRIPT.as_bytes()[..SCRIPT.len() - 1]);
-    let said = folder.hook(&[]);
+    let said = folder.run(&[]);
     let last = "2 frames: 0 changed, 2 left alone";
     assert_eq!((said.status, said.last()), (2, last));
     assert_eq!(folder.text("a.roto").as_deref(), Some(""));
@@ -81,7 +81,7 @@ fn modes_are_kept() {
         folder.put_pair("a", WIDE);
         let path = folder.path("a.roto");
         set_mode(&path, given);
-        assert_eq!(folder.hook(&[]).status, 0);
+        assert_eq!(folder.run(&[]).status, 0);
         assert_eq!(folder.text("a.roto").as_deref(), Some(LINE));
         assert_eq!(mode(&path), given);
     }
@@ -97,7 +97,7 @@ fn read_only_files_are_left_alone() {
         ("--check", "1 frame: 0 would change, 1 failed"),
         ("--force", "1 frame: 0 changed, 1 failed"),
     ] {
-        let said = folder.hook(&[word]);
+        let said = folder.run(&[word]);
         assert_eq!((said.status, said.last()), (2, last));
         assert!(said.err[0].ends_with("/a.roto: is read-only"), "{said:?}");
         assert_eq!(folder.text("a.roto").as_deref(), Some(WIDE));
@@ -117,7 +117,7 @@ fn owners_are_kept() {
         return;
     }
     set_mode(&path, 0o4600);
-    assert_eq!(folder.hook(&[]).status, 0);
+    assert_eq!(folder.run(&[]).status, 0);
     assert_eq!(folder.text("a.roto").as_deref(), Some(LINE));
     let about = fs::metadata(&path).expect("a file");
     assert_eq!((about.uid(), about.gid()), (1234, 4321));
@@ -133,7 +133,7 @@ fn links_are_kept() {
     set_mode(&folder.path("real/file"), 0o600);
     symlink("step", folder.path("a.roto")).expect("a link");
     symlink("real/file", folder.path("step")).expect("a link");
-    assert_eq!(folder.hook(&[]).status, 0);
+    assert_eq!(folder.run(&[]).status, 0);
     let link = fs::read_link(folder.path("a.roto")).expect("a link");
     assert_eq!(link, Path::new("step"));
     assert_eq!(folder.text("real/file").as_deref(), Some(LINE));
@@ -157,7 +157,7 @@ fn what_can_not_be_read_is_left_alone() {
     symlink("d.roto", folder.path("d.roto")).expect("a link");
     let names = folder.names();
     for words in [&["--check"][..], &[], &["--force"]] {
-        let said = folder.hook(words);
+        let said = folder.run(words);
         assert_eq!(said.status, 2);
         assert!(said.last().ends_with(", 4 failed"), "{said:?}");
         assert_eq!(said.err.len(), 4, "{said:?}");
@@ -218,7 +218,7 @@ fn failed_writes_leave_all_as_it_was() {
     folder.put_pair("a", WIDE);
     let name = format!(".rrufthim-{}.new", process::id());
     folder.put(&name, b"somebody's");
-    let said = folder.hook(&[]);
+    let said = folder.run(&[]);
     let last = "1 frame: 0 changed, 1 failed";
     assert_eq!((said.status, said.last()), (2, last));
     assert!(said.err[0].contains(&name), "{said:?}");

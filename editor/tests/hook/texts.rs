@@ -19,12 +19,12 @@ fn texts_are_written_where_they_change() {
     folder.put_lines("in/b.frame", LINE);
     folder.put("in/b.roto", LINE.as_bytes());
     folder.put("in/other.txt", b"no frame");
-    let first = folder.hook(&["--check"]);
+    let first = folder.run(&["--check"]);
     assert_eq!(ends(&first), (1, "2 frames: 1 would change"));
     assert!(first.out[0].ends_with("/a.roto: would change"), "{first:?}");
     assert_eq!(folder.text("a.roto").as_deref(), Some(WIDE));
 
-    let second = folder.hook(&[]);
+    let second = folder.run(&[]);
     assert_eq!(ends(&second), (0, "2 frames: 1 changed"));
     assert!(second.out[0].ends_with("/a.roto: changed"), "{second:?}");
     assert_eq!(folder.text("a.roto").as_deref(), Some(LINE));
@@ -35,7 +35,7 @@ fn texts_are_written_where_they_change() {
         ("--check", "2 frames: 0 would change"),
         ("--force", "2 frames: 0 changed"),
     ] {
-        let third = folder.hook(&[word]);
+        let third = folder.run(&[word]);
         assert_eq!(ends(&third), (0, last));
         assert!(third.out.len() == 1 && third.err.is_empty());
     }
@@ -46,11 +46,11 @@ fn texts_are_written_where_they_change() {
 fn absent_targets_are_written() {
     let folder = Folder::new("absent");
     folder.put_lines("a.frame", WIDE);
-    let check = folder.hook(&["--check"]);
+    let check = folder.run(&["--check"]);
     assert_eq!(ends(&check), (1, "1 frame: 1 would change"));
     assert!(check.out[0].ends_with("/a.roto: would change"), "{check:?}");
     assert_eq!(folder.names(), ["a.frame"]);
-    assert_eq!(ends(&folder.hook(&[])), (0, "1 frame: 1 changed"));
+    assert_eq!(ends(&folder.run(&[])), (0, "1 frame: 1 changed"));
     assert_eq!(folder.text("a.roto").as_deref(), Some(LINE));
     assert_eq!(folder.names(), ["a.frame", "a.roto"]);
 }
@@ -71,11 +71,11 @@ fn frames_without_a_text_are_named() {
     for name in ["b.roto", "c.roto", "d.roto", "e.roto", "g.roto"] {
         folder.put(name, b"as it was");
     }
-    let check = folder.hook(&["--check"]);
+    let check = folder.run(&["--check"]);
     let last = "7 frames: 2 would change, 3 refused, 2 failed";
     assert_eq!(ends(&check), (2, last));
     assert_eq!(folder.text("a.roto"), None);
-    let said = folder.hook(&["--force"]);
+    let said = folder.run(&["--force"]);
     assert_eq!(ends(&said), (2, "7 frames: 2 changed, 3 refused, 2 failed"));
     assert_eq!(folder.text("a.roto").as_deref(), Some(LINE));
     assert_eq!(folder.text("f.roto").as_deref(), Some(LINE));
@@ -105,14 +105,15 @@ fn archived_frames_ask_for_unicode_16() {
     let image = encode_as(Version::Two, &tree, &[]).expect("an image");
     folder.put_frame("a.frame", LINE, &image);
     for words in [&["--check"][..], &["--unicode", "15.1"]] {
-        let said = folder.hook(words);
+        let said = folder.run(words);
         assert_eq!(said.status, 2);
         let due = "/a.frame: refused 20 at 0: the tree image is of version \
-            2, which has no widths: choose those of Unicode 16.0";
+            2, which has no widths: choose those of Unicode 16.0, or move it \
+            back to version 1";
         assert!(said.err[0].ends_with(due), "{said:?}");
         assert_eq!(folder.names(), ["a.frame"]);
     }
-    let said = folder.hook(&["--unicode", "16.0"]);
+    let said = folder.run(&["--unicode", "16.0"]);
     assert_eq!(ends(&said), (0, "1 frame: 1 changed"));
     assert_eq!(folder.text("a.roto").as_deref(), Some(LINE));
 }
@@ -128,7 +129,7 @@ fn folders_of_any_size() {
     let long = LINE.repeat(300);
     folder.put_lines("long.frame", &long);
     let ends_with = |words: &[&str], status, last: &str| {
-        assert_eq!(ends(&folder.hook(words)), (status, last));
+        assert_eq!(ends(&folder.run(words)), (status, last));
     };
     ends_with(&["--check"], 1, "514 frames: 514 would change");
     ends_with(&[], 0, "514 frames: 514 changed");
@@ -142,20 +143,20 @@ fn folders_of_any_size() {
 fn comments_are_chosen() {
     let folder = Folder::new("comments");
     folder.put_frame("tariff.frame", SOURCE, &tariff_image());
-    assert_eq!(ends(&folder.hook(&[])), (0, "1 frame: 1 changed"));
+    assert_eq!(ends(&folder.run(&[])), (0, "1 frame: 1 changed"));
     let whole = folder.text("tariff.roto").expect("written");
     assert!(whole.ends_with("// Filing reference 44-B.\n"), "{whole}");
 
     // The comment is left out only of a file that the frame holds.
-    let kept = folder.hook(&["--as-roto"]);
+    let kept = folder.run(&["--as-roto"]);
     assert_eq!(ends(&kept), (2, "1 frame: 0 changed, 1 left alone"));
     assert_eq!(kept.out.len(), 1, "{kept:?}");
     assert_eq!(folder.text("tariff.roto"), Some(whole));
 
     folder.put("tariff.roto", SOURCE.as_bytes());
-    let roto = folder.hook(&["--as-roto"]);
+    let roto = folder.run(&["--as-roto"]);
     assert_eq!(ends(&roto), (0, "1 frame: 1 changed"));
-    let due = "/tariff.roto: 1 comment is left out";
+    let due = "/tariff.roto: line 7, column 1: 1 comment is left out";
     assert!(roto.out[0].ends_with(due), "{roto:?}");
     let lacking = folder.text("tariff.roto").expect("written");
     assert!(lacking.ends_with("}\n"), "{lacking}");
@@ -184,7 +185,7 @@ fn widths_are_chosen() {
     folder.put_frame("list.frame", LINE, &list_image());
     for (width, lines) in [("40", 6), ("41", 1), ("200", 1)] {
         folder.put("list.roto", LINE.as_bytes());
-        let said = folder.hook(&["--width", width]);
+        let said = folder.run(&["--width", width]);
         assert_eq!(ends(&said), (0, "1 frame: 1 changed"));
         let text = folder.text("list.roto").expect("written");
         assert_eq!(text.lines().count(), lines, "{text}");
@@ -200,10 +201,10 @@ fn an_edition_is_chosen() {
     folder.put_frame("list.frame", &source, &image);
     for edition in ["15.1", "16.0"] {
         folder.put("list.roto", source.as_bytes());
-        let said = folder.hook(&["--unicode", edition]);
+        let said = folder.run(&["--unicode", edition]);
         assert_eq!(ends(&said), (0, "1 frame: 0 changed"));
     }
-    let said = folder.hook(&[]);
+    let said = folder.run(&[]);
     assert_eq!(ends(&said), (0, "1 frame: 1 changed"));
     let wrapped = folder.text("list.roto").expect("written");
     assert_eq!(wrapped.lines().count(), 8, "{wrapped}");

@@ -8,11 +8,14 @@ use std::{
 
 use super::{
     example::run,
-    folder::{Folder, LINE, WIDE, hook},
+    folder::{Folder, LINE, WIDE, said},
 };
 
-const USAGE: &str = "usage: hook [--check] [--force] [--width N] \
-    [--unicode V] [--as-roto] [--] PATH...";
+const USAGE: [&str; 2] = [
+    "usage: hook [--check] [--diff] [--force] [--width N] [--unicode V] \
+        [--as-roto]",
+    "            [--no-settings] [--] PATH...",
+];
 
 #[test]
 fn what_is_not_understood_is_said_once() {
@@ -36,13 +39,15 @@ fn what_is_not_understood_is_said_once() {
         (&["--unicode", "x.frame"], &format!("{edition}not x.frame")),
     ];
     for (words, why) in faults {
-        let said = hook(words.iter().map(OsString::from));
-        let due = [&format!("hook: {why}"), USAGE, "hook --help says more"];
+        let said = said(words.iter().map(OsString::from));
+        let [first, second] = USAGE;
+        let more = "hook --help says more";
+        let due = [&format!("hook: {why}"), first, second, more];
         assert_eq!(said.err, due);
         assert_eq!((said.status, said.out.len()), (2, 0), "{why}");
     }
     let odd = OsStr::from_bytes(b"-\xff").to_owned();
-    let said = hook([odd].into_iter());
+    let said = said([odd].into_iter());
     assert_eq!(said.err[0], r#"hook: "-\xFF" is no option"#);
 }
 
@@ -53,8 +58,8 @@ fn nothing_is_written_then() {
     folder.put_lines("a.frame", WIDE);
     folder.put_lines("b.frame", WIDE);
     for words in [&["--width", "39"][..], &["--quiet"]] {
-        let said = folder.hook(words);
-        assert_eq!((said.status, said.err.len()), (2, 3), "{said:?}");
+        let said = folder.run(words);
+        assert_eq!((said.status, said.err.len()), (2, 4), "{said:?}");
         assert_eq!(folder.names(), ["a.frame", "b.frame"]);
     }
 }
@@ -63,11 +68,19 @@ fn nothing_is_written_then() {
 fn help_is_an_answer() {
     let folder = Folder::new("help");
     folder.put_lines("a.frame", WIDE);
-    let said = folder.hook(&["--help"]);
+    let said = folder.run(&["--help"]);
     assert_eq!((said.status, said.err.len()), (0, 0));
-    assert_eq!(said.out[0], USAGE);
-    let options = ["--check", "--force", "--width N", "--unicode V"];
-    for option in options.into_iter().chain(["--as-roto", "--help"]) {
+    assert_eq!(said.out[..2], USAGE);
+    for option in [
+        "--check",
+        "--diff",
+        "--force",
+        "--width N",
+        "--unicode V",
+        "--as-roto",
+        "--no-settings",
+        "--help",
+    ] {
         let starts =
             |line: &String| line.starts_with(&format!("  {option} "));
         assert!(said.out.iter().any(starts), "{option}");
@@ -79,7 +92,7 @@ fn help_is_an_answer() {
 #[test]
 fn paths_may_start_with_a_dash() {
     let words = ["--", "--check"].map(OsString::from);
-    let said = hook(words.into_iter());
+    let said = said(words.into_iter());
     assert_eq!(said.status, 2);
     assert!(said.err[0].starts_with("--check: No such file"), "{said:?}");
 }

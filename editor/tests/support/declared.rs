@@ -116,6 +116,16 @@ pub fn declared(header: &str) -> Vec<Function> {
     found
 }
 
+/// The functions of rrufthim_null.h, which stand before these.
+pub fn wrapped(header: &str) -> Vec<Function> {
+    let text = without_comments(header);
+    let parts = constants(HEADER).into_iter();
+    let text = parts.fold(text, |text, (name, value)| {
+        text.replace(&format!("[{name}]"), &format!("[{value}]"))
+    });
+    functions(&text, "static inline void ", |one| vec![from_c(one)])
+}
+
 fn from_c(parameter: &str) -> String {
     let (pointer, rest) = match parameter.strip_prefix("const ") {
         Some(rest) => ("*const", rest),

@@ -10,7 +10,7 @@ use rrufthim::{
 
 use crate::{
     File,
-    beside::{Due, named},
+    beside::{Due, named, spans_of},
     plug,
 };
 
@@ -68,7 +68,10 @@ fn archived_text(
 ) -> (String, Vec<Span>) {
     let mut formatter = Formatter::new().with_options(options.clone());
     let formatted = formatter.format_archived(file).expect("archived");
-    (formatted.text.to_owned(), formatted.comments_left)
+    (
+        formatted.text.to_owned(),
+        spans_of(&formatted.comments_left),
+    )
 }
 
 /// Whether an error is the judge's refusal.

@@ -117,11 +117,19 @@ pub fn of_the_crate(file: &File, due: &Due) -> Vec<&'static str> {
         ("archived text", archived == Ok(&due.kept)),
         ("image", image.as_ref() == Ok(&due.image)),
         ("text", roto.text == due.text),
-        ("comments left", roto.comments_left == due.comments_left),
+        (
+            "comments left",
+            spans_of(&roto.comments_left) == due.comments_left,
+        ),
         ("text with all comments", kept.text == due.kept),
         ("no comment left", kept.comments_left.is_empty()),
         ("text by an edition", measured.text == due.measured),
     ])
+}
+
+/// The spans of comments that a text lacks.
+pub(crate) fn spans_of(places: &[rrufthim::Place]) -> Vec<Span> {
+    places.iter().map(|place| place.span.clone()).collect()
 }
 
 /// The widths that the image supplies, one for each text.
@@ -169,7 +177,7 @@ pub fn of_the_plug(
         ("the plug's text", roto.text == due.text),
         (
             "the plug's comments left",
-            roto.comments_left == due.comments_left,
+            spans_of(&roto.comments_left) == due.comments_left,
         ),
         ("the plug's text with all comments", kept.text == due.kept),
         ("no comment left by the plug", kept.comments_left.is_empty()),

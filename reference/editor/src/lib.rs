@@ -7,8 +7,9 @@ pub mod beside;
 pub mod convert;
 mod declarations;
 mod expressions;
+pub mod hook;
 pub mod own;
-pub mod patched;
+pub mod roto;
 // What `reference/fmt` shares with the examples that write files.
 #[path = "../../../editor/examples/common/mod.rs"]
 pub mod common;
@@ -16,8 +17,17 @@ pub mod common;
 #[path = "../../../editor/plug/mod.rs"]
 pub mod plug;
 
-// Where the plug and the patch look for them.
-use judge::{RotoError, RotoReport, ast, load, parser};
+// Roto's own src/fmt.rs, patched, with the plug beside it (build.rs): without
+// a warning.
+#[deny(warnings)]
+mod patches {
+    include!(concat!(env!("OUT_DIR"), "/patched.rs"));
+}
+
+// Where the plug and the patched file look for them.
+use judge::ast;
+pub use roto::{RotoError, RotoReport};
+use roto::{load, parser};
 
 use std::{collections::VecDeque, ops::Range};
 

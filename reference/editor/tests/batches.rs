@@ -37,7 +37,11 @@ fn judged(file: Frame, choice: Choice) -> (Answer, usize) {
 
 fn answered(answer: Result<Formatted, FormatError>) -> Answer {
     match answer {
-        Ok(formatted) => Ok((formatted.text, formatted.comments_left)),
+        Ok(formatted) => {
+            let left = formatted.comments_left.into_iter();
+            let left = left.map(|place| place.span).collect();
+            Ok((formatted.text, left))
+        }
         Err(error) => match error.cause {
             Cause::Refused(refusal) => {
                 Err([refusal.number(), refusal.place()].map(|n| n as u64))

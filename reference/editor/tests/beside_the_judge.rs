@@ -11,15 +11,12 @@ use std::thread;
 use editor::{
     as_written,
     beside::{self, Due},
-    decode, patched,
+    decode,
 };
 use judge::{
-    RotoError,
-    choice::Choice,
-    driver, examples,
+    examples,
     frame::{self, Frame},
     generate::{self, Class},
-    mode::NEW,
     reader, script, tree,
 };
 use rrufthim::{File, Formatter, encode, encode_written, write_tree};
@@ -134,86 +131,6 @@ fn sizes() {
     let frames = generate::frames(Class::Sizes, SEED, count);
     let accepted = frames.filter(|bytes| compare(bytes)).count();
     assert!(accepted > 10, "{accepted}");
-}
-
-/// The patched `fmt_parsed` gives the original's text, and at its foot the
-/// comments that the original drops.
-#[test]
-fn the_patch() {
-    let (mut whole, mut kept) = (0, 0);
-    for bytes in generate::frames(Class::Realistic, SEED, FRAMES / 10) {
-        let frame = frame::split_any_size(&bytes).expect("a frame");
-        let accepted = reader::read(frame.source, frame.image);
-        let accepted = accepted.expect("accepted");
-        let input = tree::Input::new(&accepted, frame.image);
-        let choice = Choice {
-            mode: NEW,
-            ..Choice::REFERENCE
-        };
-        let [original, due] = [Choice::REFERENCE, choice]
-            .map(|choice| driver::run_as(&input, choice));
-        let tree::Input {
-            ast,
-            files,
-            spans,
-            extras,
-            ..
-        } = input;
-        let text = patched::fmt_parsed(&ast, files, spans, &extras);
-        let text = text.unwrap_or_else(|_| panic!("a text"));
-        assert_eq!(text, due.text);
-        match original.comments_left {
-            0 => {
-                whole += 1;
-                assert_eq!(text, original.text);
-            }
-            _ => {
-                kept += 1;
-                assert_ne!(text, original.text);
-            }
-        }
-    }
-    assert!(whole > 10 && kept > 10, "{whole}, {kept}");
-}
-
-/// What can't be formatted is an error of Roto's.
-#[test]
-fn the_patch_refuses() {
-    let bytes = generate::frames(Class::Realistic, SEED, 40).find(|bytes| {
-        let frame = frame::split_any_size(bytes).expect("a frame");
-        reader::read(frame.source, frame.image)
-            .is_ok_and(|read| !read.comments.is_empty())
-    });
-    let bytes = bytes.expect("one with comments");
-    let frame = frame::split_any_size(&bytes).expect("a frame");
-    let accepted = reader::read(frame.source, frame.image).expect("accepted");
-    let tree::Input {
-        ast,
-        mut files,
-        spans,
-        extras,
-        ..
-    } = tree::Input::new(&accepted, frame.image);
-    files.files[0].contents.clear();
-    let report = patched::fmt_parsed(&ast, files, spans, &extras);
-    let errors = report.expect_err("refused").errors;
-    assert!(matches!(&errors[..], [RotoError::Custom(_)]));
-}
-
-/// What README.md shows of the patch is what is compiled here.
-#[test]
-fn the_patch_is_shown() {
-    const README: &str = include_str!("../../../editor/README.md");
-    const PATCHED: &str = include_str!("../src/patched.rs");
-    let (_, diff) = README.split_once("```diff\n").expect("a patch");
-    let (diff, _) = diff.split_once("```").expect("its end");
-    let (_, function) = diff.split_once(" fn fmt_parsed(").expect("there");
-    let after = function.lines().filter_map(|line| {
-        line.strip_prefix('+').or_else(|| line.strip_prefix(' '))
-    });
-    let after: Vec<&str> = after.collect();
-    let (_, due) = PATCHED.split_once("fn fmt_parsed(\n").expect("there");
-    assert_eq!(after.join("\n"), due.trim_end());
 }
 
 /// The deepest records, and trees of all shapes, on 256 KB of stack.

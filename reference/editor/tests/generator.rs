@@ -10,7 +10,7 @@ use judge::{
     steps,
 };
 use rrufthim::{
-    File, Refusal, encode_written,
+    Cause, File, Refusal, encode_written,
     generator::{self, Builder, Step},
     write_tree,
 };
@@ -78,7 +78,12 @@ fn steps_are_the_judges() {
                 (Ok(list), Ok(steps)) => {
                     assert!(generator::read(&list) == Ok(steps), "{name}");
                 }
-                (Err(due), Err(got)) => assert_eq!(numbers(&got), due),
+                (Err(due), Err(got)) => {
+                    let Cause::Refused(got) = got.cause else {
+                        panic!("{name}: {got}");
+                    };
+                    assert_eq!(numbers(&got), due);
+                }
                 (due, got) => panic!("{name}: {due:?} and {got:?}"),
             }
         }
@@ -121,4 +126,41 @@ fn lists_end_where_the_judge_says() {
     }
     let reached = written > 500 && early > 500 && late > 500;
     assert!(reached, "{written}, {early}, {late}");
+}
+
+/// The words for the step that the judge names don't call it due, unless they
+/// say what else is wrong with it.
+#[test]
+fn wrong_steps_are_explained() {
+    let (mut by_sort, mut by_fault, mut at_end) = (0, 0, 0);
+    for index in 0..LISTS {
+        let list = generate::step_list(SEED, index);
+        let due = steps::write(&list, usize::MAX);
+        let Some(at) = due.err().filter(|it| it.number == 16) else {
+            continue;
+        };
+        let explained = generator::explain(&list, at.place as usize);
+        assert_eq!(explained.at as u64, at.place, "{index}");
+        match (&explained.step, explained.fault) {
+            (None, _) => at_end += 1,
+            (Some(_), Some(_)) => by_fault += 1,
+            (Some(step), None) => {
+                by_sort += 1;
+                assert!(!is_due(&explained.due, step), "{explained}");
+            }
+        }
+    }
+    let reached = by_sort > 500 && by_fault > 50 && at_end > 50;
+    assert!(reached, "{by_sort}, {by_fault}, {at_end}");
+}
+
+fn is_due(due: &generator::Due, step: &Step) -> bool {
+    match step {
+        Step::Comment { .. } => due.comment,
+        Step::Open { kind, .. } => due.kinds.contains(kind),
+        Step::Text { .. } => due.text,
+        Step::Payload(_) => due.payload.is_some(),
+        Step::Absent => due.absent,
+        Step::Close => due.close,
+    }
 }

@@ -12,6 +12,7 @@ mod formulas;
 pub mod measure;
 #[cfg(feature = "calls")]
 mod moves;
+pub mod plot;
 pub mod port;
 pub mod program;
 #[cfg(feature = "calls")]

@@ -22,7 +22,7 @@ render_checked-requires c =
     let fits = ap not c.if-not-width_fits.false in
     drawn_starts _ _ _ _ _ c.args.out.now
     (choice_passes _ _ (to_choice c.args.choice) c.requires.rule c.requires.read c.if-choice-gt-NEW_MODE.false _ c.width_fits.ensures fits)
-    _ _ _ _ (fresh_by c.default.ensures) (ap (closing_at _) c.count_declarations.ensures) c.layout_accepted.ensures
+    _ _ _ _ (fresh_by c.default.ensures) (ap (closing_at _) c.count_declarations.ensures) c.layout_at_once.ensures
     _ c.in_ok-laid.was _ _ (c.render_fresh.ensures _)
 
 pub returns-in_err-laid : goal.returns-in_err-laid
@@ -32,7 +32,7 @@ returns-in_err-laid c =
     rw (p.1, p.2)
     (layout_refused _ _ _ _ _ _
     (choice_passes _ _ (to_choice c.args.choice) c.requires.rule c.requires.read c.if-choice-gt-NEW_MODE.false _ c.width_fits.ensures fits)
-    _ _ _ _ (fresh_by c.default.ensures) (ap (closing_at _) c.count_declarations.ensures) c.layout_accepted.ensures
+    _ _ _ _ (fresh_by c.default.ensures) (ap (closing_at _) c.count_declarations.ensures) c.layout_at_once.ensures
     _ c.in_err-laid.was)
 
 pub returns-in_err-drawn : goal.returns-in_err-drawn
@@ -42,7 +42,7 @@ returns-in_err-drawn c =
     rw (p.1, p.2)
     (drawn_refused _ _ _ _ _ _
     (choice_passes _ _ (to_choice c.args.choice) c.requires.rule c.requires.read c.if-choice-gt-NEW_MODE.false _ c.width_fits.ensures fits)
-    _ _ _ _ (fresh_by c.default.ensures) (ap (closing_at _) c.count_declarations.ensures) c.layout_accepted.ensures
+    _ _ _ _ (fresh_by c.default.ensures) (ap (closing_at _) c.count_declarations.ensures) c.layout_at_once.ensures
     _ c.in_ok-laid.was _ _ (c.render_fresh.ensures _) _ _ _ _ _ c.render_checked.ensures _ c.in_err-drawn.was)
 
 pub returns : goal.returns
@@ -50,5 +50,5 @@ returns c =
     let fits = ap not c.if-not-width_fits.false in
     drawn_formats _ _ _ _ _ _
     (choice_passes _ _ (to_choice c.args.choice) c.requires.rule c.requires.read c.if-choice-gt-NEW_MODE.false _ c.width_fits.ensures fits)
-    _ _ _ _ (fresh_by c.default.ensures) (ap (closing_at _) c.count_declarations.ensures) c.layout_accepted.ensures
+    _ _ _ _ (fresh_by c.default.ensures) (ap (closing_at _) c.count_declarations.ensures) c.layout_at_once.ensures
     _ c.in_ok-laid.was _ _ (c.render_fresh.ensures _) _ _ _ _ _ c.render_checked.ensures _ c.in_ok-drawn.was

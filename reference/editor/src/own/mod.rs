@@ -69,7 +69,7 @@ pub fn text_of(
     let outgrown = formatted.outgrown;
     let text = formatted
         .complete()
-        .map_err(|left| comments_lost(bytes, &left.0))?;
+        .map_err(|left| comments_lost(&left.0))?;
     same_file(&script, text)?;
     let text = text.to_owned();
     Ok(Own { text, outgrown })
@@ -102,14 +102,13 @@ fn said_at(source: &[u8], at: usize, why: &str) -> String {
 }
 
 /// Only where the original's way is chosen.
-fn comments_lost(source: &[u8], left: &[Range<usize>]) -> String {
-    let first = left.first().map_or(0, |comment| comment.start);
+fn comments_lost(left: &[Place]) -> String {
+    let first = left.first().map_or(String::new(), Place::to_string);
     let count = match left.len() {
         1 => "a comment".to_owned(),
         many => format!("{many} comments"),
     };
-    let why = format!("Roto's own formatter would drop {count} from here on");
-    said_at(source, first, &why)
+    format!("{first}: Roto's own formatter would drop {count} from here on")
 }
 
 /// Whether a text is read as the file that it is the text of.

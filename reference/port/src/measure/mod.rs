@@ -103,14 +103,15 @@ pub fn table(lines: &[Line]) -> String {
     out
 }
 
-/// The lines as comma-separated values, times in seconds.
+/// The lines as comma-separated values, times in seconds; an input's name may
+/// have commas.
 pub fn csv(lines: &[Line]) -> String {
     let mut out =
         "step,input,size,unit,port_seconds,rust_seconds,ratio\n".to_string();
     for line in lines {
         writeln!(
             out,
-            "{},{},{},{},{:e},{:e},{:.4}",
+            "{},\"{}\",{},{},{:e},{:e},{:.4}",
             line.step,
             line.input,
             line.size,

@@ -3,8 +3,8 @@ use native.Mathlib.Omega.{arith}
 use Rattle.render_call.proofs.Held.{few, all_in, made_of}
 use Rattle.render_call.proofs.call.Call.run.Goals as goal
 
-pub shared_ref_as_front-open_rows : goal.shared_ref_as_front-open_rows
-shared_ref_as_front-open_rows c = few _ _ c.args.self.now.state c.args.self.now.args c.args.store.now c.args.listed.now (omega arith) c.requires
+pub shared_ref_as_front-rows : goal.shared_ref_as_front-rows
+shared_ref_as_front-rows c = few _ _ c.args.self.now.state c.args.self.now.args c.args.store.now c.args.listed.now (omega arith) c.requires
 
 pub open_rows-requires-clause-within : goal.open_rows-requires-clause-within
 open_rows-requires-clause-within c = all_in _ _ c.args.self.now.state c.args.self.now.args c.args.store.now c.args.listed.now (omega arith) c.requires
