@@ -15,7 +15,7 @@ use Rattle.image.specs.Read.{read_refusal}
 use Rattle.cut_rule.specs.Run.{write_front}
 use Rattle.whole_run.specs.File.{file_answer}
 use Rattle.whole_run.specs.Built.{FileChoice}
-use Rattle.file.specs.Whole.{formatted_answer, Formats}
+use Rattle.file.specs.Whole.{formatted_answer, FormatsLent}
 use Rattle.file.specs.declared.Text.{Text}
 use Rattle.refusals.specs.Reasons.{number_of, refusal as refusal_lem}
 use Rattle.refusals.specs.declared.Refused.{Refused}
@@ -29,11 +29,12 @@ use Rattle.batch.proofs.Bounds.{early_fine}
 use Rattle.batch.proofs.Texts.{table_size}
 
 -- ---- one file
-module _ (x : Save) (c : FileChoice) (out : List ℕ) (r : Result Text Refused) (out2 : List ℕ) (h : Formats x.source x.image c out r out2) where
+module _ (x : Save) (c : FileChoice) (store marks out : List ℕ) (r : Result Text Refused) (store2 marks2 out2 : List ℕ)
+    (h : FormatsLent x.source x.image c store marks out r store2 marks2 out2) where
   -- without an output
   module _ (bare : length out ≡ 0) where
     answered : formatted_answer r ≡ file_answer x.source x.image c 0
-    answered = h.answer ∙ ap (file_answer x.source x.image c) bare
+    answered = h.formats.answer ∙ ap (file_answer x.source x.image c) bare
 
     pub size_text : (t : Text) → r ≡ Ok t → t.bytes.0 ≡ length (text_of c x)
     size_text t q = bare_text c x _ (ap formatted_answer (sym q) ∙ answered)
@@ -46,10 +47,10 @@ module _ (x : Save) (c : FileChoice) (out : List ℕ) (r : Result Text Refused) 
   -- with room for its text
   module _ (fits : length (text_of c x) ≤ length out) where
     row_same : row_of (formatted_answer r) ≡ row_of (single c x)
-    row_same = ap row_of (h.answer ∙ answer_roomy c x (length out) fits)
+    row_same = ap row_of (h.formats.answer ∙ answer_roomy c x (length out) fits)
 
     left : out2 ≡ write_front (text_of c x) out
-    left = h.output_left_of ∙ output_roomy c x out fits
+    left = h.formats.output_left_of ∙ output_roomy c x out fits
 
     pub saved_text : (t : Text) → r ≡ Ok t → Saved c x out (record { number = 0; place = 0; bytes = t.bytes.0 }) out2
     saved_text t q = record { row = ap (λ (z : Result Text Refused). row_of (formatted_answer z)) (sym q) ∙ row_same; text_left = left }

@@ -50,8 +50,8 @@ render_state l = record {
   listed_rows = get_or l 7 0;
 }
 
--- Its listed rows, from its ninth number on: as many as it counts, then 0. A number over 2^32 - 1 stands for 2^32 - 1, the number of a row that no
--- store has.
+-- Its listed rows, from its ninth number on: as many as it counts, then 0. A number over 2^32 - 1 stands for 2^32 - 1, which is no number of a row
+-- that 11 and 12 let pass.
 abbrev pub listed_number : ℕ → ℕ
 listed_number n = min n 4294967295
 

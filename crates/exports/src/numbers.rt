@@ -29,7 +29,7 @@ pub(crate) const STATE: usize = STATE_FRONT + MAX_LISTED;
 
 pub(crate) const STATE_ANSWER: usize = ANSWER_FRONT + MAX_LISTED;
 
-// A listed row over it stands for it: no store has its row.
+// A listed row over it stands for it: no row that 11 and 12 let pass has a number that large.
 const NO_LISTED: u64 = 4_294_967_295;
 
 // A flag is yes for every number but 0.

@@ -1,6 +1,8 @@
 -- What the run of one file, or of one frame, answers and leaves: rows and marks are its own, the output is lent. Below it stands the run in
 -- rows and marks that are lent too.
-use Rattle.std.specs.Prelude.{◌≡◌, Bool, not, ◌&&◌, List, [], ◌∷◌, ℕ, ◌+◌, leb, length, take, drop, Option, Result, Ok, Err, IfOk}
+use Rattle.std.specs.Prelude.{◌≡◌, Bool, not, ◌&&◌, List, [], ◌∷◌, ℕ, ◌+◌, leb, length, take, drop, Option, Result, Ok, Err}
+use Rattle.std.proofs.lemmas.List.Edits.{sets}
+use Rattle.rows.specs.Rows.{rows}
 use Rattle.image.specs.Bytes.{be32}
 use Rattle.refusals.specs.Refusals.{Refusal, unless, first, refuse_if}
 use Rattle.refusals.specs.Answers.{Answer, answer_by}
@@ -10,7 +12,8 @@ use Rattle.cut_rule.specs.Run.{write_front}
 use Rattle.cut_rule.specs.Tests.{rows_in}
 use Rattle.whole_run.specs.Built as plain
 use Rattle.whole_run.specs.Built.{reference_choice, drawn_due, column_due}
-use Rattle.whole_run.specs.File.{FileResult, file_result, answer_in, file_answer, file_refusal, file_output, refusal_in, store_left, marks_left, output_left}
+use Rattle.whole_run.specs.File.{file_before_rows, file_rows_line, FileResult, file_result, answer_in, file_answer, file_refusal, file_output, refusal_in}
+use Rattle.whole_run.specs.File.{store_left, marks_left, output_left}
 use Rattle.file.specs.declared.FileChoice.{FileChoice}
 use Rattle.file.specs.declared.Text.{Text}
 use Rattle.file.specs.declared.Run.{Run}
@@ -35,13 +38,24 @@ abbrev pub widest_of : Result Run Refused → ℕ
 widest_of (Ok r) = r.widest.0
 widest_of (Err r) = 0
 
--- the answer with the greatest column, and marks and output at exit, for one source and image and what the caller chose; the store's rows where
--- the run doesn't stop: where it does, what is in the store is not said
+-- The store at exit: where a line before 8 refuses, as it was; where 8 does, the rows that have room stand in it, before the sums of the rule are put
+-- into them; else all rows.
+abbrev pub store_by : List ℕ → List ℕ → plain.FileChoice → List ℕ → Option Refusal → Option Refusal → List ℕ
+store_by source image choice store before eight =
+    unless before
+    store
+    (unless eight (sets store 0 (rows (plain.built source image choice).nodes 0)) (store_left source image choice store))
+
+abbrev pub store_run : List ℕ → List ℕ → plain.FileChoice → List ℕ → List ℕ
+store_run source image choice store =
+    store_by source image choice store (first (file_before_rows source image choice)) (first (file_rows_line source image choice (rows_in store)))
+
+-- the answer with the greatest column, and store, marks and output at exit, for one source and image and what the caller chose
 pub record RunsFile (source image : List ℕ) (choice : plain.FileChoice) (store marks out : List ℕ) (r : Result Run Refused)
     (store2 marks2 out2 : List ℕ) : Type 0 where
   pub answer : formatted_answer (formatted_of r) ≡ answer_in source image choice (rows_in store) (length marks) (length out)
   pub widest : widest_of r ≡ unless (refusal_in source image choice (rows_in store) (length marks) (length out)) 0 (column_due source image choice)
-  pub store_laid : IfOk r (λ t. store2 ≡ store_left source image choice store)
+  pub store_left_of : store2 ≡ store_run source image choice store
   pub marks_left_of : marks2 ≡ marks_left source image choice store marks out
   pub output_left_of : out2 ≡ output_left source image choice store marks out
 
@@ -49,6 +63,13 @@ pub record RunsFile (source image : List ℕ) (choice : plain.FileChoice) (store
 pub record Formats (source image : List ℕ) (choice : plain.FileChoice) (out : List ℕ) (r : Result Text Refused) (out2 : List ℕ) : Type 0 where
   pub answer : formatted_answer r ≡ file_answer source image choice (length out)
   pub output_left_of : out2 ≡ file_output source image choice out
+
+-- the same with rows and marks that are lent, and what they hold at exit
+pub record FormatsLent (source image : List ℕ) (choice : plain.FileChoice) (store marks out : List ℕ) (r : Result Text Refused)
+    (store2 marks2 out2 : List ℕ) : Type 0 where
+  pub formats : Formats source image choice out r out2
+  pub store_left_of : store2 ≡ store_run source image choice store
+  pub marks_left_of : marks2 ≡ marks_left source image choice store marks out
 
 -- a frame: "four bytes source length, source, image"
 abbrev pub source_of : List ℕ → List ℕ

@@ -10,7 +10,7 @@ ghost use Rattle.layout_call.specs.Steps.{RuleFits, Reads};
 ghost use Rattle.layout_call.specs.ByFile.{of_file};
 ghost use Rattle.whole_run.specs.File.{file_rows, file_marks};
 ghost use Rattle.render_call.specs.Calls.{to_state as rendered_state};
-ghost use Rattle.file.specs.Whole.{to_choice, RunsFile, Formats, FormatsFrame};
+ghost use Rattle.file.specs.Whole.{to_choice, RunsFile, Formats, FormatsLent, FormatsFrame};
 
 use choices::rule_chosen;
 use image::bytes::num32;
@@ -92,7 +92,7 @@ pub fn marks() -> [u8; MARKS]
 }
 
 /// A file that is accepted, in rows and marks that are lent: all declarations in one layout call, for which no rows are counted first, and all rows in
-/// one rendering call. It is no entry: where it stops, rows of it may stand in the store, those that have room.
+/// one rendering call. It is no entry: where 8, 9 or 10 stops it, rows of it stand in the store.
 pub fn run_file(
     file: Accepted<'_>,
     store: &mut [u32],
@@ -154,7 +154,8 @@ fn format_in(
 ) -> Result<Text, Refused>
     requires rule { of_file RuleFits file choice.rule }
     requires read { of_file Reads file false }
-    ensures { Formats file.entry.parsed.source.now file.entry.parsed.image.now (to_choice choice) out.old result out.new }
+    ensures { FormatsLent file.entry.parsed.source.now file.entry.parsed.image.now (to_choice choice)
+        store.old used.old out.old result store.new used.new out.new }
 {
     let run = run_file(file, store, used, out, choice)?;
     Ok(run.text)
@@ -185,7 +186,7 @@ pub fn format_file(
     format_accepted(file, out, choice)
 }
 
-/// The same in rows and marks that are lent, so that who formats many files clears them once. What they hold at exit is not said.
+/// The same in rows and marks that are lent, so that who formats many files clears them once.
 pub fn format_lent(
     source: &[u8],
     image: &[u8],
@@ -194,7 +195,7 @@ pub fn format_lent(
     out: &mut [u8],
     choice: FileChoice,
 ) -> Result<Text, Refused>
-    ensures { Formats source.now image.now (to_choice choice) out.old result out.new }
+    ensures { FormatsLent source.now image.now (to_choice choice) store.old used.old out.old result store.new used.new out.new }
 {
     rule_chosen(image, choice.rule)?;
     let file = Accepted::check(source, image, false)?;

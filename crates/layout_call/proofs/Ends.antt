@@ -42,7 +42,7 @@ use Rattle.node_widths.specs.Summed.{str_columns, laid_nodes}
 use Rattle.row_widths.specs.Passes.{pass, row_summed}
 use Rattle.row_widths.proofs.Summing.{summed_rows}
 use Rattle.layout_call.specs.Calls.{to_state, to_args, laying_answer}
-use Rattle.layout_call.specs.Whole.{LayoutCalled, LaidAtOnce}
+use Rattle.layout_call.specs.Whole.{LayoutCalled, LaidAtOnce, left_by}
 use Rattle.layout_call.specs.Steps.{RuleFits, Reads, unfit, Goes, StateFits, from_of, missing, call_act}
 use Rattle.layout_call.specs.declared.LayoutState.{LayoutState}
 use Rattle.layout_call.specs.declared.LayoutArgs.{LayoutArgs}
@@ -84,11 +84,12 @@ module _ (s b : List ℕ) (state : LayoutState) (q : LayoutArgs) (store : List �
       before_from None g
       ∙ ap₂ (λ (x : Option Refusal) (y : Bool). first (x ∷ refuse_if y 12 0 ∷ [])) (sym (refusal_by q.archive s b) ∙ e) f
 
+  behind_by : (u : Bool) (n : ℕ) → needed ≡ n → ltb (rows_in store) n ≡ u → first behind ≡ first (refuse_if u 8 n ∷ [])
+  behind_by u n g h =
+      ap (λ (x : ℕ). first (refuse_if (ltb (rows_in store) x) 8 x ∷ [])) g ∙ ap (λ (x : Bool). first (refuse_if x 8 n ∷ [])) h
+
   rows_by : (u : Bool) (n : ℕ) → first before ≡ None → needed ≡ n → ltb (rows_in store) n ≡ u → table ≡ first (refuse_if u 8 n ∷ [])
-  rows_by u n e g h =
-      left_to before behind e
-      ∙ ap (λ (x : ℕ). first (refuse_if (ltb (rows_in store) x) 8 x ∷ [])) g
-      ∙ ap (λ (x : Bool). first (refuse_if x 8 n ∷ [])) h
+  rows_by u n e g h = left_to before behind e ∙ behind_by u n g h
 
   refused_by : (r : Refusal) (x : Result declared.Laid Refused) → table ≡ Some r → laying_answer s b x ≡ refused r → LayoutCalled s b state q store x store
   refused_by r x e f =
@@ -97,10 +98,9 @@ module _ (s b : List ℕ) (state : LayoutState) (q : LayoutArgs) (store : List �
         store_left_of = ap (λ (t : Option Refusal). unless t store (write_at (PLACES * state.row) gives.rows store)) (sym e);
       }
 
-  -- of a refusal no store is told
-  pub at_once_refused : (r : Refused) (store2 store3 : List ℕ) → LayoutCalled s b state q store (Err r) store2
-      → LaidAtOnce s b state q store (Err r) store3
-  at_once_refused r store2 store3 h = record { answer = h.answer; store_laid = tt }
+  -- what stands in a store for which no rows are counted
+  abbrev stored_by : Option Refusal → Option Refusal → List ℕ
+  stored_by = left_by s b state q store
 
   -- so, by what the test of the state answers, 12 refuses it or lets it pass
   pub fits_unless : RuleFits s b q.rule → Reads s b q.archive → (x : Bool) → x ≡ not refuses → x ≡ true → StateFits s b state q store
@@ -110,6 +110,15 @@ module _ (s b : List ℕ) (state : LayoutState) (q : LayoutArgs) (store : List �
   pub ends_unfit : RuleFits s b q.rule → Reads s b q.archive → (x : Bool) → x ≡ not refuses → x ≡ false
       → LayoutCalled s b state q store (Err (record { reason = reason.State; place = 0 })) store
   ends_unfit g r x e h = refused_by _ _ (refuses_left _ before behind (before_by true g r (not-false refuses (sym e ∙ h)))) refl
+
+  -- the same where no rows are counted
+  pub at_once_unfit : RuleFits s b q.rule → Reads s b q.archive → (x : Bool) → x ≡ not refuses → x ≡ false
+      → LaidAtOnce s b state q store (Err (record { reason = reason.State; place = 0 })) store
+  at_once_unfit g r x e h =
+      record {
+        answer = (ends_unfit g r x e h).answer;
+        store_left_of = sym (ap (λ (o : Option Refusal). stored_by o (first behind)) (before_by true g r (not-false refuses (sym e ∙ h))));
+      }
 
   module _ {d : Document} (a : Accepts s b d) where
     -- what the test of the state answers, by how much there is of all
@@ -176,7 +185,11 @@ module _ (s b : List ℕ) (state : LayoutState) (q : LayoutArgs) (store : List �
       -- with the rows there, laying at once is what the call does
       roomy_called : needed ≤ rows_in store → (r : Result declared.Laid Refused) (store2 : List ℕ) → LaidAtOnce s b state q store r store2
           → LayoutCalled s b state q store r store2
-      roomy_called h (Ok t) store2 once = record { answer = once.answer; store_left_of = once.store_laid }
+      roomy_called h (Ok t) store2 once =
+          record {
+            answer = once.answer;
+            store_left_of = once.store_left_of ∙ ap₂ stored_by passes (behind_by false needed refl (le-ltb (rows_in store) needed h));
+          }
       roomy_called h (Err r) store2 once =
           let passed : table ≡ None = rows_by false needed passes refl (le-ltb (rows_in store) needed h) in
           let laid_out_due : refused (refusal r) ≡ accepted (laid_out gives.state gives.left) =
@@ -212,14 +225,22 @@ module _ (s b : List ℕ) (state : LayoutState) (q : LayoutArgs) (store : List �
         needed_laid = needed_is ∙ sym rows_laid
 
         -- 8, by that row
-        pub ends_past : (store3 : List ℕ) → rows_in store < e.row
-            → LaidAtOnce s b state q store (Err (record { reason = reason.RowsNeeded; place = e.row })) store3
-        ends_past store3 h =
-            at_once_refused _ store store3 (refused_by _ _ (rows_by true e.row passes needed_laid (lt-ltb (rows_in store) e.row h)) refl)
+        pub ends_past : rows_in store < e.row → LaidAtOnce s b state q store (Err (record { reason = reason.RowsNeeded; place = e.row })) store2
+        ends_past h =
+            let short = lt-ltb (rows_in store) e.row h in
+            let why : Refused = record { reason = reason.RowsNeeded; place = e.row } in
+            record {
+              answer =
+                  (refused_by (refusal why) (Err why) (rows_by true e.row passes needed_laid short) refl).answer;
+              store_left_of = laid.stored ∙ sym (ap₂ stored_by passes (behind_by true e.row needed_laid short));
+            }
 
         module _ (roomy : e.row ≤ rows_in store) where
           none_left : table ≡ None
           none_left = rows_by false e.row passes needed_laid (le-ltb (rows_in store) e.row roomy)
+
+          none_behind : first behind ≡ None
+          none_behind = behind_by false e.row needed_laid (le-ltb (rows_in store) e.row roomy)
 
           room : (state.row + sizes ns) * PLACES ≤ length store
           room = omega (arith, rows_laid, roomy)
@@ -259,7 +280,11 @@ module _ (s b : List ℕ) (state : LayoutState) (q : LayoutArgs) (store : List �
                 answer =
                     (λ i. accepted (laid_out (same_state i) (same_left i)))
                     ∙ ap (λ (z : Option Refusal). answer_by {A = CallResult (rules_of s b)} z (laid_out gives.state gives.left)) (sym none_left);
-                store_laid = summed_as ∙ stored ∙ ap (λ (z : Option Refusal). unless z store (write_at (PLACES * state.row) gives.rows store)) (sym none_left);
+                store_left_of =
+                    summed_as
+                    ∙ stored
+                    ∙ ap (λ (z : Option Refusal). unless z store (write_at (PLACES * state.row) gives.rows store)) (sym none_left)
+                    ∙ sym (ap₂ stored_by passes none_behind);
               }
             where
               same_state : to_state t ≡ gives.state

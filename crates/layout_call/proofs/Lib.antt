@@ -1,2 +1,3 @@
 pub mod Standing
 pub mod Ends
+pub mod WholeFile

@@ -32,7 +32,7 @@ use Rattle.whole_run.proofs.Right.{right}
 use Rattle.render_call.specs.Calls.{to_args, run_refusal}
 use Rattle.render_call.specs.Whole.{Runnable}
 use Rattle.render_call.specs.declared.RenderArgs.{RenderArgs}
-use Rattle.render_call.proofs.Tests.{stop_within, few_rows}
+use Rattle.rowcheck.proofs.Pending.{stop_in}
 
 -- what is read from is not behind the next row
 pub reads_low : (ls : List OpenRow) (n : ℕ) → reads_from ls n ≤ n
@@ -69,8 +69,8 @@ accepted source image z args store marks e =
     record {
       by_rule = told.checked.right;
       right = rows;
-      within = stop_within source image store (read_from z) args.stop rows;
-      few = few_rows source image store (read_from z) args.stop rows;
+      within = (stop_in source image store (read_from z) args.stop rows).0;
+      few = (stop_in source image store (read_from z) args.stop rows).1;
       from = reads_low z.listed z.row;
       ahead = fits.row.not_past;
       indent = fits.pen.indent;

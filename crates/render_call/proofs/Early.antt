@@ -5,7 +5,6 @@ use mathlib.Core.Bool.{Bool}
 use Rattle.std.specs.Prelude.{Option, None, Some, Err}
 use mathlib.Core.List.{List, [], ◌∷◌}
 use Prim.Native.Nat.{ℕ, ◌+◌, ◌*◌, ◌-◌, ◌≤◌, ◌<◌}
-use native.Mathlib.Omega.{arith}
 use lib.ListN.{length}
 use lib.Dec.{ltb}
 use borrow.Author.Tests.{lt-ltb, le-ltb}
@@ -14,20 +13,19 @@ use Rattle.refusals.proofs.Groups.{refuses_left, left_to}
 use Rattle.cut_rule.specs.States as states
 use Rattle.cut_rule.specs.Parts.{before_marks, marks_line, read_from}
 use Rattle.cut_rule.proofs.Table.{RenderChecked, render_checked}
-use Rattle.rows.specs.Limits.{MAX_ROWS}
-use Rattle.rows.specs.Places.{PLACES}
 use Rattle.renderer_rules.specs.Check.{wrong_place}
-use Rattle.renderer_rules.specs.Limits.{START_MARGIN}
+use Rattle.rows.specs.View.{view_of, nodes_at}
+use Rattle.renderer_rules.specs.Most.{nodes_most}
 use Rattle.renderer_rules.proofs.ByRule.{right_by}
 use Rattle.marks.specs.Marks.{marks_needed}
 use Rattle.whole_run.specs.Parts.{parts_of}
 use Rattle.render_call.specs.Calls.{to_args, early_refusal, run_refusal}
-use Rattle.render_call.specs.Whole.{Draws, Checked, Passing}
+use Rattle.rowcheck.specs.Needs.{NeedsOf}
+use Rattle.rowcheck.specs.declared.needs.Needs.{Needs}
+use Rattle.render_call.specs.Whole.{Draws, Checked, Passing, MarginOf, NeedsOfCall}
 use Rattle.render_call.specs.declared.RenderArgs.{RenderArgs}
 use Rattle.refusals.specs.declared.Reason.TheVariants as reason
 use Rattle.refusals.specs.declared.Refused.{Refused}
-use Rattle.render_call.proofs.Tests.{stop_within, few_rows}
-use Rattle.render_call.proofs.Accepted.{reads_low}
 use Rattle.render_call.proofs.Whole.{ends_early}
 
 module _ (source image : List ℕ) (z : states.RenderState) (args : RenderArgs) (store marks : List ℕ) where
@@ -45,23 +43,19 @@ module _ (source image : List ℕ) (z : states.RenderState) (args : RenderArgs) 
     told : RenderChecked (parts_of source image) (to_args args 0) z store marks
     told = render_checked (parts_of source image) (to_args args 0) z store marks h.passes
 
-    right : wrong_place source image store (read_from z) args.stop ≡ None
+    pub right : wrong_place source image store (read_from z) args.stop ≡ None
     right = right_by args.rule source image store (read_from z) args.stop told.right
 
-    pub small_sum : z.pen.indent + z.pen.next_indent ≤ START_MARGIN
-    small_sum = omega (arith, told.fits.pen.indent, told.fits.pen.next_indent)
-
-    -- what the pass over the rows asks for
-    pub needs_within : (margin : ℕ) → margin ≡ z.pen.indent + z.pen.next_indent
-        → (read_from z ≤ args.stop) × ((args.stop * PLACES ≤ length store) × ((args.stop ≤ MAX_ROWS) × (margin ≤ START_MARGIN)))
-    needs_within margin e =
-        let l = small_sum in (
-          (let a = reads_low z.listed z.row in let b = told.fits.row.not_past in omega arith),
-          (
-            stop_within source image store (read_from z) args.stop right,
-            (few_rows source image store (read_from z) args.stop right, omega arith),
-          ),
-        )
+    -- what it gives, where lines start as the state says
+    pub needs_of : (m : ℕ) (n : Needs) → MarginOf z.pen m → NeedsOf store (read_from z) args.stop m n → NeedsOfCall source image z args store n
+    needs_of m n g d =
+        record {
+          marks = d.marks;
+          bytes =
+              d.bytes
+              ∙ ap (λ (k : ℕ). 4 * k + nodes_most (nodes_at (view_of store) (read_from z) args.stop) k)
+              (g.same told.fits.pen.indent told.fits.pen.next_indent);
+        }
 
     abbrev needed : ℕ
     needed = marks_needed (args.stop - read_from z) store (read_from z)

@@ -1,4 +1,3 @@
-pub mod Tests
 pub mod Accepted
 pub mod Whole
 pub mod Early
@@ -9,5 +8,4 @@ pub mod Ran
 pub mod Finish
 pub mod Owned
 pub mod Dry
-pub mod Summed
 pub mod Steps

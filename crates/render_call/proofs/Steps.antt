@@ -67,8 +67,7 @@ module _ (source image : List ℕ) (z : states.RenderState) (args : RenderArgs) 
       (length z.listed) z.row args.allotment s at.under at.low (low source image z args store x) (all_lie source image z args store x)
       in
       let m =
-      text_most args.width.0 (ascii_columns args.rule source image) source image store (read_from z) args.stop 0 (z.pen.indent + z.pen.next_indent)
-      (nests source image z args store marks may)
+      text_most args.width.0 (ascii_columns args.rule source image) source image (nodes_at v (read_from z) args.stop) (z.pen.indent + z.pen.next_indent)
       true
       s
       refl
@@ -166,9 +165,9 @@ module _ (source image : List ℕ) (z : states.RenderState) (args : RenderArgs)
       (omega arith))
 
 -- refused by the first tests
-pub refused_by : (source image : List ℕ) (z : states.RenderState) (args : RenderArgs) (store marks out listed : List ℕ) (r : Result (Unit {0}) Refused)
+pub refused_by : {A : Type 0} (source image : List ℕ) (z : states.RenderState) (args : RenderArgs) (store marks out listed : List ℕ) (r : Result A Refused)
     → refusal_in r ≡ early_refusal source image args z store marks → (e : Refused) → r ≡ Err e
     → RenderCalled source image z args store marks out listed (Err e) store marks out listed
-refused_by source image z args store marks out listed r f e g =
+refused_by {A} source image z args store marks out listed r f e g =
     (ends_early source image z args store marks out listed e
     (refused_early source image z args store marks _ (sym f ∙ ap refusal_in g))).called

@@ -6,7 +6,6 @@ use Rattle.cut_rule.specs.Parts.{read_from}
 use Rattle.render_call.specs.declared.call.Call.{Call}
 use Rattle.render_call.specs.declared.RenderArgs.{RenderArgs}
 use Rattle.render_call.specs.Calls.{to_state}
-use Rattle.render_call.specs.Whole.{most_of}
 
 abbrev pub of_call : {A : Type 1} → (List ℕ → List ℕ → states.RenderState → RenderArgs → A) → Call → List ℕ → A
 of_call f c listed = f c.source.now c.image.now (to_state c.state listed) c.args
@@ -14,7 +13,3 @@ of_call f c listed = f c.source.now c.image.now (to_state c.state listed) c.args
 -- the marks that the rows need which it reads
 abbrev pub needed_of : Call → List ℕ → List ℕ → ℕ
 needed_of c listed store = let from = read_from (to_state c.state listed) in marks_needed (c.args.stop - from) store from
-
--- the bytes that its rows give at most
-abbrev pub most_for : Call → List ℕ → List ℕ → ℕ
-most_for c listed store = most_of (to_state c.state listed) c.args store

@@ -2,7 +2,7 @@
 use Rattle.std.specs.Prelude.{◌≡◌, List, ◌++◌, map, ℕ, ◌+◌, ◌*◌, ◌-◌, ◌≤◌, ◌<◌, min, true, length, take, replicate, None, Result}
 use Rattle.rows.specs.Limits.{MAX_ROWS, MAX_DEPTH}
 use Rattle.rows.specs.Places.{PLACES}
-use Rattle.rows.specs.View.{View, view_of}
+use Rattle.rows.specs.View.{View, view_of, nodes_at}
 use Rattle.rows.specs.Nesting.{Nests}
 use Rattle.rows.specs.declared.units.Bytes.{Bytes}
 use Rattle.renderer.specs.declared.writing.Writing.{Writing}
@@ -11,9 +11,10 @@ use Rattle.renderer.specs.declared.run.Renderer.{Renderer as Held}
 use Rattle.row_widths.specs.Passes.{Unturned}
 use Rattle.renderer_rules.specs.declared.Frame.{Frame}
 use Rattle.renderer_rules.specs.Frames.{no_frame, frame_at}
-use Rattle.renderer_rules.specs.Limits.{MAX_INDENT, MAX_COLUMN}
+use Rattle.renderer_rules.specs.declared.Pen.{Pen}
+use Rattle.renderer_rules.specs.Limits.{MAX_INDENT, MAX_COLUMN, START_MARGIN}
 use Rattle.renderer_rules.specs.Listed.{resumed, listed_those, can_close_all}
-use Rattle.renderer_rules.specs.Most.{rows_most}
+use Rattle.renderer_rules.specs.Most.{nodes_most}
 use Rattle.renderer_rules.specs.Stops.{stop_at, listed_rows}
 use Rattle.listed_rows.specs.Numbers.{open_row, row_number}
 use Rattle.cut_rule.specs.Entries.{render_gives, render_answer, render_marks, render_output}
@@ -22,6 +23,7 @@ use Rattle.cut_rule.specs.States as states
 use Rattle.refusals.specs.Refusals.{unless}
 use Rattle.refusals.specs.declared.Refused.{Refused}
 use Rattle.marks.specs.Marks.{marks_needed}
+use Rattle.rowcheck.specs.declared.needs.Needs.{Needs}
 use Rattle.cut_rule.specs.Parts.{with_cleared, bytes_needed, read_from}
 use Rattle.whole_run.specs.Parts.{parts_of, open_rows, still_entered, stopped, widest_drawn}
 use Rattle.whole_run.specs.Demands.{rules_of}
@@ -87,7 +89,17 @@ pub record Fitting (source image : List ℕ) (z : states.RenderState) (args : Re
 abbrev pub most_of : states.RenderState → RenderArgs → List ℕ → ℕ
 most_of z args store =
     let margin = z.pen.indent + z.pen.next_indent in
-    4 * margin + rows_most (args.stop - read_from z) margin store (read_from z)
+    4 * margin + nodes_most (nodes_at (view_of store) (read_from z) args.stop) margin
+
+-- how many steps in the first line starts, where 12 lets the state pass
+pub record MarginOf (p : Pen) (n : ℕ) : Type 0 where
+  pub few : n ≤ START_MARGIN
+  pub same : p.indent ≤ MAX_INDENT → p.next_indent ≤ MAX_INDENT → n ≡ p.indent + p.next_indent
+
+-- the marks that the rows need, and the bytes that they give at most
+pub record NeedsOfCall (source image : List ℕ) (z : states.RenderState) (args : RenderArgs) (store : List ℕ) (n : Needs) : Type 0 where
+  pub marks : n.marks ≡ marks_needed (args.stop - read_from z) store (read_from z)
+  pub bytes : n.bytes.0 ≡ most_of z args store
 
 -- p has the state's pen, and wrote nothing yet
 pub record Takes (state : RenderState) (p : Writing) : Type 0 where

@@ -6,6 +6,7 @@ ghost use Rattle.rows.specs.Places.{PLACES};
 ghost use Rattle.rows.specs.View.{view_of};
 ghost use Rattle.cut_rule.specs.Parts.{read_from};
 ghost use Rattle.render_call.specs.Calls.{to_state, to_args, state_refusal};
+ghost use Rattle.render_call.specs.Whole.{MarginOf};
 ghost use Rattle.refusals.specs.Reasons.{refusal_in};
 
 use crate::MAX_LISTED;
@@ -62,6 +63,17 @@ impl Call<'_> {
             && pen_fits(self.state.pen)
             && marks_fit(marks, self.state.in_use)
             && rule_fits(self.args.rule, self.state.rule)
+    }
+
+    // How many steps in the first line starts; 0 where 12 refuses the state by these.
+    pub(crate) fn margin(&self) -> usize
+        ensures { MarginOf self.now.state.pen result }
+    {
+        let pen = self.state.pen;
+        if pen.indent <= MAX_INDENT && pen.next_indent <= MAX_INDENT {
+            return pen.indent + pen.next_indent;
+        }
+        0
     }
 
     // The row that is read from: the first listed row or the next row, the earlier.

@@ -6,18 +6,19 @@ mod dry_run;
 mod fits;
 mod open;
 mod refusal;
-mod room;
 mod run;
 pub mod width;
 
 ghost use Rattle.render_call.specs.Calls.{to_state};
-ghost use Rattle.render_call.specs.Whole.{RenderCalled, Draws, Checked};
+ghost use Rattle.render_call.specs.Whole.{RenderCalled, Draws, Checked, NeedsOfCall};
 ghost use Rattle.render_call.specs.ByCall.{of_call};
 
 use crate::call::Call;
-use crate::room::rows_need;
 use refusals::{Reason, Refused};
 use renderer_rules::Pen;
+use rowcheck::needs::Needs;
+use rowcheck::weighing::rows_need;
+use rows::texts::Rows;
 use rows::units::{Bytes, Columns};
 
 // How many rows a state lists at most.
@@ -61,7 +62,26 @@ pub struct Drawn {
 }
 
 impl Call<'_> {
-    // A rendering call that 20, 1 to 3, 11, 12, 15, 22 and 23 do not refuse.
+    // A rendering call that 20, 1 to 3, 11, 12, 15, 22 and 23 do not refuse, whose rows need so much.
+    fn render_needing(
+        &self,
+        store: &mut [u32],
+        marks: &mut [u8],
+        out: &mut [u8],
+        listed: &mut [u32; MAX_LISTED],
+        needs: Needs,
+    ) -> Result<Drawn, Refused>
+        requires checked { of_call Checked self.now listed.old store.old marks.old }
+        requires needs { of_call NeedsOfCall self.now listed.old store.old needs }
+        ensures { of_call Draws self.now listed.old store.old marks.old out.old listed.old result store.new marks.new out.new listed.new }
+    {
+        if marks.len() < needs.marks {
+            return Err(Reason::MarksNeeded.at(needs.marks));
+        }
+        self.render_accepted(store, marks, out, listed, needs)
+    }
+
+    // The same where nothing has counted what they need.
     pub fn render_checked(
         &self,
         store: &mut [u32],
@@ -72,13 +92,13 @@ impl Call<'_> {
         requires { of_call Checked self.now listed.old store.old marks.old }
         ensures { of_call Draws self.now listed.old store.old marks.old out.old listed.old result store.new marks.new out.new listed.new }
     {
-        let pen = self.state.pen;
-        let margin = pen.indent + pen.next_indent;
-        let needs = rows_need(store, self.reads_from(listed), self.args.stop, margin);
-        if marks.len() < needs.marks {
-            return Err(Reason::MarksNeeded.at(needs.marks));
-        }
-        self.render_accepted(store, marks, out, listed, needs)
+        let rows = Rows {
+            store,
+            source: self.source,
+            image: self.image,
+        };
+        let needs = rows_need(rows, self.reads_from(listed), self.args.stop, self.margin());
+        self.render_needing(store, marks, out, listed, needs)
     }
 }
 
@@ -103,6 +123,9 @@ pub fn render_call(
         state,
         args,
     };
-    call.refusal(store, marks, listed)?;
-    Ok(call.render_checked(store, marks, out, listed)?.written)
+    let needs = call.refusal(store, marks, listed)?;
+    Ok(
+        call.render_needing(store, marks, out, listed, needs)?
+            .written,
+    )
 }

@@ -1,11 +1,10 @@
 // The run of a call that nothing refuses before it: at once where the text surely has room, else after a dry run has counted the bytes.
 ghost use Rattle.std.specs.Prelude.{◌≡◌};
-ghost use Rattle.render_call.specs.Whole.{Draws, Passing, Fitting, Takes, Runnable, Made, HaltsOn, Halts};
-ghost use Rattle.render_call.specs.ByCall.{of_call, needed_of, most_for};
+ghost use Rattle.render_call.specs.Whole.{Draws, Passing, Fitting, Takes, Runnable, Made, HaltsOn, Halts, NeedsOfCall};
+ghost use Rattle.render_call.specs.ByCall.{of_call, needed_of};
 
 use crate::call::Call;
 use crate::open::{list_rows, open_rows};
-use crate::room::Needs;
 use crate::{Drawn, MAX_LISTED, RenderState, Written};
 use marks::count::clear_marks;
 use refusals::{Reason, Refused};
@@ -13,6 +12,7 @@ use render_by_rule::{Quota, run_by_rule};
 use renderer::frames::Frames;
 use renderer::run::Renderer;
 use renderer::writing::Writing;
+use rowcheck::needs::Needs;
 use rows::units::{Bytes, Columns};
 
 // Where a run halts: the text so far, the open rows and the next row; and how many rows it entered.
@@ -152,8 +152,7 @@ impl Call<'_> {
         needs: Needs,
     ) -> Result<Drawn, Refused>
         requires passing { of_call Passing self.now listed.old store.old marks.old }
-        requires marks { needs.marks ≡ needed_of self.now listed.old store.old }
-        requires bytes { needs.bytes.0 ≡ most_for self.now listed.old store.old }
+        requires needs { of_call NeedsOfCall self.now listed.old store.old needs }
         ensures { of_call Draws self.now listed.old store.old marks.old out.old listed.old result store.new marks.new out.new listed.new }
     {
         if self.state.listed_rows == 0 && needs.bytes.0 <= out.len() {

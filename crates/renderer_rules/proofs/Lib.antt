@@ -14,6 +14,7 @@ pub mod Machine
 pub mod Margin
 pub mod Meaning
 pub mod Most
+pub mod MostByRows
 pub mod Names
 pub mod Opened
 pub mod OwnMarks

@@ -1,4 +1,8 @@
 pub mod Laws
+pub mod Shapes
+pub mod Tries
+pub mod Joined
+pub mod Ahead
 pub mod Pending
 pub mod Earlier
 pub mod Seeking

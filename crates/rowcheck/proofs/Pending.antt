@@ -4,15 +4,16 @@ use mathlib.Core.Path.{◌≡◌, refl, ap, ap₂, sym, subst, ◌∙◌}
 use Prim.Native.Nat.{ℕ, zero, suc, ◌+◌, ◌*◌, ◌-◌, ◌≤◌, ◌<◌}
 use native.Mathlib.Omega.{arith}
 use native.Mathlib.Numerals.{add-one}
-use mathlib.Core.Bool.{Bool, true, false, cond}
+use mathlib.Core.Bool.{Bool, true, false, cond, ◌&&◌}
 use mathlib.Core.List.{List, [], ◌∷◌}
 use Rattle.std.specs.Prelude.{Option, Some, None}
 use lib.ListN.{length}
-use lib.Dec.{ltb}
-use borrow.Author.Tests.{lt-ltb, le-ltb, le-leb, lt-leb, ltb-true}
+use lib.Dec.{ltb, leb}
+use borrow.Author.Tests.{lt-ltb, le-ltb, le-leb, lt-leb, ltb-true, leb-true}
 use Rattle.rows.specs.Limits.{MAX_DEPTH, MAX_ROWS}
 use Rattle.rows.specs.Places.{AFTER, PLACES}
 use Rattle.rows.specs.View.{View, view_of, cell}
+use Rattle.laws.proofs.Options.{never}
 use Rattle.refusals.specs.Refusals.{Refusal, refuse_at}
 use Rattle.renderer_rules.specs.Check.{row_fits_of, or_later, first_wrong, wrong_row_of, places_fit, wrong_place}
 use Rattle.renderer_rules.proofs.Checked.{Fits, fits_row}
@@ -142,9 +143,9 @@ module _ (places : ℕ → Bool) (v : View) where
 abbrev pub refused : Option ℕ → Option Refusal
 refused o = refuse_at o 11
 
--- each end is inside the next, and the last inside the stop
+-- each end is inside the next, and the last is the stop
 abbrev pub Outward : ℕ → ℕ → List ℕ → Type 0
-Outward stop end [] = end ≤ stop
+Outward stop end [] = end ≡ stop
 Outward stop end (x ∷ xs) = (end ≤ x) × Outward stop x xs
 
 -- What the loop keeps.
@@ -158,13 +159,13 @@ abbrev pub check_left : ℕ → ℕ → List ℕ → ℕ
 check_left stop row ends = (stop - row) * 2 + length ends
 
 pub within_stop : (stop end : ℕ) (ends : List ℕ) → Outward stop end ends → end ≤ stop
-within_stop stop end [] h = h
+within_stop stop end [] h = omega arith
 within_stop stop end (x ∷ xs) h = let l = within_stop stop x xs h.1 in let k = h.0 in omega arith
 
 module _ (places : ℕ → Bool) (s : List ℕ) (stop : ℕ) where
   pub check_start : (ends : List ℕ) (from : ℕ) → ends ≡ [] → Checking places s stop (wrong_row_of places (view_of s) stop 0 from) ends stop from
   unfolding ahead
-  check_start ends from e = rw e (record { same = refl; outward = omega arith; deep = omega arith; inside = λ h. absurd (omega arith) })
+  check_start ends from e = rw e (record { same = refl; outward = refl; deep = omega arith; inside = λ h. absurd (omega arith) })
 
   module _ (answer : Option ℕ) (ends : List ℕ) (end row : ℕ) (c : Checking places s stop answer ends end row) where
     pub end_within : end ≤ stop
@@ -204,11 +205,29 @@ module _ (places : ℕ → Bool) (s : List ℕ) (stop : ℕ) where
             inside = λ m. h;
           })
 
+      -- where no row is wrong, this one isn't
+      pub check_passes : answer ≡ None → row < end → row_fits_of places (view_of s) end depth row ≡ true
+      check_passes none h = go (row_fits_of places (view_of s) end depth row) refl
+        where
+          go : (t : Bool) → row_fits_of places (view_of s) end depth row ≡ t → t ≡ true
+          go true e = refl
+          go false e = absurd (never row (sym (check_wrong h e) ∙ none))
+
+      pub check_fits : row_fits_of places (view_of s) end depth row ≡ true → Fits places (view_of s) end depth row
+      check_fits f = fits_row places (view_of s) end depth row f
+
       pub check_room : row_fits_of places (view_of s) end depth row ≡ true → length ends < MAX_DEPTH
       check_room f = let t = (fits_row places (view_of s) end depth row f).shallow in omega arith
 
     pub check_right : ends ≡ [] → end ≤ row → answer ≡ None
     check_right d h = sym c.same ∙ ap (λ (es : List ℕ). ahead places (view_of s) es end row) d ∙ ahead_end places (view_of s) end row h
+
+    -- the open part ends where the row is
+    pub check_at : 0 < length ends → end ≤ row → row ≡ end
+    check_at h k = omega (arith, c.inside h)
+
+    pub check_all : ends ≡ [] → end ≡ stop
+    check_all d = subst (Outward stop end) d c.outward
 
     pub check_out : (x : ℕ) (xs : List ℕ) → ends ≡ x ∷ xs → end ≤ row → Checking places s stop answer xs x row
     check_out x xs e h =
@@ -241,3 +260,19 @@ module _ (source image s : List ℕ) (from stop : ℕ) where
       → wrong_place source image s from stop ≡ wrong_row_of (places_fit source image s) (view_of s) stop 0 from
   unfolding wrong_place
   stop_fits h k = rw (le-leb stop MAX_ROWS h, le-leb (stop * PLACES) (length s) k)
+
+  -- where nothing is wrong, the stop is in the store, and no row is wrong
+  by_stop : (a b : Bool) → leb stop MAX_ROWS ≡ a → leb (stop * PLACES) (length s) ≡ b
+      → cond (a && b) (wrong_row_of (places_fit source image s) (view_of s) stop 0 from) (Some 0) ≡ None
+      → ((stop * PLACES ≤ length s) × (stop ≤ MAX_ROWS)) × (wrong_row_of (places_fit source image s) (view_of s) stop 0 from ≡ None)
+  by_stop true true e f g = ((leb-true (stop * PLACES) (length s) f, leb-true stop MAX_ROWS e), g)
+  by_stop true false e f g = absurd (never 0 g)
+  by_stop false b e f g = absurd (never 0 g)
+
+  pub stop_in : wrong_place source image s from stop ≡ None → (stop * PLACES ≤ length s) × (stop ≤ MAX_ROWS)
+  unfolding wrong_place
+  stop_in e = (by_stop (leb stop MAX_ROWS) (leb (stop * PLACES) (length s)) refl refl e).0
+
+  pub rows_right : wrong_place source image s from stop ≡ None → wrong_row_of (places_fit source image s) (view_of s) stop 0 from ≡ None
+  unfolding wrong_place
+  rows_right e = (by_stop (leb stop MAX_ROWS) (leb (stop * PLACES) (length s)) refl refl e).1

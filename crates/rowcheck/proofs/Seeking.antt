@@ -7,7 +7,6 @@ use native.Mathlib.Numerals.{add-one}
 use mathlib.Core.Bool.{Bool, true, false, cond, ◌&&◌}
 use mathlib.Core.List.{List}
 use Rattle.std.specs.Prelude.{Option, Some, None}
-use Rattle.std.specs.Option.{unwrap_or, option_or}
 use lib.ListN.{length}
 use lib.Dec.{leb}
 use borrow.Author.Tests.{leb-true}
@@ -83,30 +82,17 @@ module _ (source image s : List ℕ) (from stop : ℕ) where
   right w e = record { fits = λ k l m. rows_right (leb stop MAX_ROWS && leb (stop * PLACES) (length s)) k l (rw e m) }
 
 -- ---- by what the code asks
-unwrapped : (w : Option ℕ) (stop : ℕ) → unwrap_or w stop ≡ up_to w stop
-unwrapped None stop = refl
-unwrapped (Some k) stop = refl
-
-either : (a b : Option ℕ) → option_or a b ≡ or_later a b
-either None b = refl
-either (Some k) b = refl
-
-module _ (source image s : List ℕ) (from stop : ℕ) (w : Option ℕ) (end : ℕ) (e : w ≡ wrong_place source image s from stop) (u : end ≡ unwrap_or w stop) where
-  same_end : end ≡ up_to w stop
-  same_end = u ∙ unwrapped w stop
-
+module _ (source image s : List ℕ) (from stop : ℕ) (w : Option ℕ) (end : ℕ) (e : w ≡ wrong_place source image s from stop) (u : end ≡ up_to w stop) where
   pub there_by : end * PLACES ≤ length s
-  there_by = rw same_end (there source image s from stop w (sym e))
+  there_by = rw u (there source image s from stop w (sym e))
 
   pub right_by : Fitting source image s from end
-  right_by = rw same_end (right source image s from stop w (sym e))
+  right_by = rw u (right source image s from stop w (sym e))
 
-pub passes_by : (rule : ℕ) (source image s : List ℕ) (from stop : ℕ) → (rule ≡ SUPPLIED → ⊥) → (w : Option ℕ) (end : ℕ) (torn r : Option ℕ)
-    → w ≡ wrong_place source image s from stop → end ≡ unwrap_or w stop
-    → torn ≡ first_failing (whole_at source image s) (end - from) from → r ≡ option_or torn w
-    → r ≡ wrong_place_by rule source image s from stop
-passes_by rule source image s from stop n w end torn r e u f q =
-    q
-    ∙ either torn w
-    ∙ ap (λ (o : Option ℕ). or_later o w) (f ∙ ap (λ (k : ℕ). first_failing (whole_at source image s) (k - from) from) (u ∙ unwrapped w stop))
+pub passes_by : (rule : ℕ) (source image s : List ℕ) (from stop : ℕ) → (rule ≡ SUPPLIED → ⊥) → (w : Option ℕ) (end : ℕ) (torn : Option ℕ)
+    → w ≡ wrong_place source image s from stop → end ≡ up_to w stop
+    → torn ≡ first_failing (whole_at source image s) (end - from) from
+    → or_later torn w ≡ wrong_place_by rule source image s from stop
+passes_by rule source image s from stop n w end torn e u f =
+    ap (λ (o : Option ℕ). or_later o w) (f ∙ ap (λ (k : ℕ). first_failing (whole_at source image s) (k - from) from) u)
     ∙ sym (passes rule source image s from stop n w (sym e))

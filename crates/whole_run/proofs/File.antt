@@ -137,7 +137,7 @@ module _ (s b : List ℕ) where
           left = g.left_due_of t;
         }
 
-    rows_needed_lem : rows_needed (parts_of s b) layout_args layout_fresh ≡ rows_due s b c
+    pub rows_needed_lem : rows_needed (parts_of s b) layout_args layout_fresh ≡ rows_due s b c
     rows_needed_lem = ((fmt_parsed_lem (read_earlier s b) s b).closed_in (layout_choice c)).row_due
 
     -- the rows that the layout call leaves
@@ -169,7 +169,7 @@ module _ (s b : List ℕ) where
 
     -- ---- of a file that no line before 8 refuses
     module _ (h : first (file_before_rows s b c) ≡ None) where
-      layout_early : (store : List ℕ) → first (before_rows (parts_of s b) layout_args layout_fresh store) ≡ None
+      pub layout_early : (store : List ℕ) → first (before_rows (parts_of s b) layout_args layout_fresh store) ≡ None
       layout_early store =
           let p = file_passed s b c h in
           λ t. first (p.chosen t ∷ p.read t ∷ refuse_if (layout_passes p.moded store t) 12 0 ∷ [])

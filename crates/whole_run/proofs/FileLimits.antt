@@ -32,11 +32,11 @@ use Rattle.comments.specs.Listed.{given}
 use Rattle.layout_facts.specs.Sound.{Inside, Supplied, TextsOf, TextsIn}
 use Rattle.layout_facts.proofs.Limits.{closed_within}
 use Rattle.renderer_rules.specs.Check.{uses_number, uses_number2, uses_second, uses_text, uses_width, text_fits, no_text_fits, places_fit}
-use Rattle.renderer_rules.specs.Most.{row_most, rows_most}
 use Rattle.renderer_rules.specs.Page.{text_bytes}
 use Rattle.renderer_rules.specs.Renderer.{Page}
 use Rattle.renderer_rules.proofs.ByRule.{fits_by}
 use Rattle.renderer_rules.proofs.Most.{text_most, text_size}
+use Rattle.renderer_rules.proofs.MostByRows.{row_most, rows_most, nested_most}
 use Rattle.widths.proofs.ByRule.{by_fits}
 use Rattle.node_widths.specs.Summed.{summed, summed_all, str_columns}
 use Rattle.node_widths.specs.Measured.{ascii_columns, rule_page}
@@ -218,7 +218,9 @@ module _ {s b : List ℕ} (z : Sized s b) where
 pub rows_text_limited : RowsTextLimited
 rows_text_limited c s b store marks n few image e =
     let r = right c.rule s b store 0 n (omega arith) e in
-    let h = text_most c.width (ascii_columns c.rule s b) s b store 0 n 0 0 r.nests true (renderer_of render_fresh.pen marks) refl refl in
+    let ns = nodes_at (view_of store) 0 n in
+    let h = text_most c.width (ascii_columns c.rule s b) s b ns 0 true (renderer_of render_fresh.pen marks) refl refl in
+    let t = nested_most store 0 r.nests in
     let k = rows_sized (sized c.rule s b image) c.rule store n few r in
     let m : rows_most (n - 0) 0 store 0 ≡ rows_most n 0 store 0 = ap (λ (x : ℕ). rows_most x 0 store 0) (sub-zero n) in
     omega arith

@@ -174,7 +174,7 @@ impl ListedRow {
     const FACTS: u64 = 6;
 
     /// The number by which the library lists it: row * 6 + way * 2 + wraps. A
-    /// row for which there is no such number is one that no store has.
+    /// row for which there is no such number is one that 11 and 12 refuse.
     fn number(&self) -> u64 {
         let facts = 2 * self.way as u64 + u64::from(self.wraps);
         let row = self.row as u64;

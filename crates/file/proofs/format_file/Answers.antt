@@ -7,7 +7,8 @@ use Rattle.cut_rule.specs.Parts.{rule_line}
 use Rattle.whole_run.specs.Parts.{other_rule}
 use Rattle.layout_call.specs.Steps.{Reads}
 use Rattle.layout_call.specs.declared.accepted.Accepted.{Accepted}
-use Rattle.file.proofs.Steps.{check_refused}
+use Rattle.file.specs.Whole.{to_choice}
+use Rattle.file.proofs.Steps.{stops_first, check_refused}
 use Rattle.file.proofs.format_file.Goals as goal
 
 pub returns-in_err-file : goal.returns-in_err-file
@@ -15,7 +16,8 @@ returns-in_err-file c =
     let p = err_from_is_err_and c.from_residual-in_err-file.result c.from_residual-in_err-file.ensures.1 in
     let rule = c.args.choice.rule in
     let ruled : rule_line (other_rule c.args.image.now rule) rule ≡ None = sym c.rule_chosen.ensures ∙ ap refusal_in c.in_ok-rule_chosen.was in
-    rw (p.1, p.2) (check_refused _ _ _ ruled _ _ (sym c.check.ensures.answer ∙ ap (answer_of (λ (a : Accepted). a.doc)) c.in_err-file.was))
+    let unread = sym c.check.ensures.answer ∙ ap (answer_of (λ (a : Accepted). a.doc)) c.in_err-file.was in
+    rw (p.1, p.2) (stops_first _ _ _ _ _ (check_refused _ _ (to_choice c.args.choice) ruled _ unread))
 
 pub format_accepted-requires-clause-read : goal.format_accepted-requires-clause-read
 format_accepted-requires-clause-read c =

@@ -1,11 +1,10 @@
-use Rattle.layout_call.proofs.Ends.{fits_unless, goes, ends_unfit, at_once_refused}
+use Rattle.layout_call.proofs.Ends.{fits_unless, goes, at_once_unfit}
 use Rattle.layout_call.proofs.layout_at_once.Goals as goal
 
 pub returns-then-not-call_fits : goal.returns-then-not-call_fits
 returns-then-not-call_fits c =
     rw c.at.ensures
-    (at_once_refused _ _ c.args.state c.args.args c.args.store.now _ _ _
-    (ends_unfit _ _ c.args.state c.args.args c.args.store.now c.requires.rule c.requires.read _ c.call_fits.ensures c.if-not-call_fits.true))
+    (at_once_unfit _ _ c.args.state c.args.args c.args.store.now c.requires.rule c.requires.read _ c.call_fits.ensures c.if-not-call_fits.true)
 
 pub invariant_of-call : goal.invariant_of-call
 invariant_of-call c =

@@ -7,4 +7,4 @@ use Rattle.batch.proofs.writing.write_text.Goals as goal
 pub returns-in-Err : goal.returns-in-Err
 returns-in-Err c =
     rw c.number.ensures
-    (saved_refused (saved c.args.frame.now) (to_choice c.args.choice) c.args.out.now _ _ c.format_lent.ensures c.requires c.in-Err.refused c.in-Err.is)
+    (saved_refused (saved c.args.frame.now) (to_choice c.args.choice) _ _ c.args.out.now _ _ _ _ c.format_lent.ensures c.requires c.in-Err.refused c.in-Err.is)

@@ -6,7 +6,7 @@ use Rattle.layout_call.proofs.call.Call.laid.Goals as goal
 pub returns-then-rows-row : goal.returns-then-rows-row
 returns-then-rows-row c =
     let call = c.args.self.now in
-    rw c.at.ensures (ends_past _ _ call.state call.args _ call.file.accepts c.requires _ _ c.lay_all-e.ensures _ c.if-rows-row.true)
+    rw c.at.ensures (ends_past _ _ call.state call.args _ call.file.accepts c.requires _ _ c.lay_all-e.ensures c.if-rows-row.true)
 
 pub sum_by-requires : goal.sum_by-requires
 sum_by-requires c =
