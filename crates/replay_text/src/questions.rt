@@ -6,7 +6,7 @@ use crate::run::Run;
 use stored_answers::numbers::{Reader, past};
 use text::newlines::{count_newlines, is_range};
 use text::space::{find_something, trim_end};
-use text::utf8::{Char, char_at, last_char};
+use text::utf8::{Char, char_at, char_before};
 
 // How a place that may be missing is stored, and a character.
 fn place(found: Option<usize>) -> usize {
@@ -63,7 +63,7 @@ pub(crate) fn ask_all(rt: &impl Print, run: &mut Run, s: &[u8]) {
         answers.long() == point(char_at(s, a))
     });
     ask_places(rt, run, places, |answers, a| {
-        answers.long() == point(s.get(..a).and_then(last_char))
+        answers.long() == point(char_before(s, 0, a))
     });
     ask_ranges(rt, run, places, |answers, a, b| {
         answers.byte() == count_newlines(s, a, b).place

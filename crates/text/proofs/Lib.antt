@@ -2,12 +2,14 @@ pub mod Boundaries
 pub mod Bytes
 pub mod Characters
 pub mod Checked
+pub mod CodePoints
 pub mod CommentEnds
 pub mod Counts
 pub mod Cuts
 pub mod LastNewline
 pub mod Parts
 pub mod Prefixes
+pub mod Ranges
 pub mod Reached
 pub mod Runs
 pub mod Sequences

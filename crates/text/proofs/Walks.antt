@@ -74,6 +74,14 @@ left_start s from to h k =
 left_before : {s text : List ℕ} {from to : ℕ} → Left s from to text → char_before text 0 (length text) ≡ char_before s from (from + length text)
 left_before {s} {text} {from} {to} l = ap (λ (t : List ℕ). char_before t 0 (length text)) l.same ∙ before_part s from (length text) l.inside
 
+-- and that of a range is the text's
+pub before_range : (s : List ℕ) (from to : ℕ) → from ≤ to → to ≤ length s
+    → char_before (part s from (to - from)) 0 (length (part s from (to - from))) ≡ char_before s from to
+before_range s from to h k =
+    let size = part_length s from (to - from) (omega arith) in
+    let end : from + length (part s from (to - from)) ≡ to = omega arith in
+    left_before (left_start s from to h k) ∙ ap (char_before s from) end
+
 pub left_smaller : (text : List ℕ) (c : Char) → char_before text 0 (length text) ≡ Some c → length (take (length text - c.bytes) text) < length text
 left_smaller text c e = let some = before_inside text 0 (length text) c e in rw length-take (omega (arith, some.0, some.1))
 

@@ -215,3 +215,10 @@ pub fn last_char(text: &[u8]) -> Option<Char>
         bytes,
     })
 }
+
+/// The last character of the range from `from` to `to`; none where that is no range of the text.
+pub fn char_before(s: &[u8], from: usize, to: usize) -> Option<Char>
+    ensures { result ≡ char_before s.now from to }
+{
+    last_char(s.get(from..to)?)
+}
