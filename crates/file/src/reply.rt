@@ -11,7 +11,7 @@ pub fn reply(frame: &[u8], out: &mut [u8; 65536]) -> usize
     match format_frame(frame, out) {
         Ok(text) => text.bytes.0,
         Err(refused) => {
-            let line = refused_line(refused);
+            let line = refused_line(refused.number(), refused.place);
             let end = line.len();
             out[..end].copy_from_slice(line.as_str().as_bytes());
             end

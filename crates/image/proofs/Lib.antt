@@ -1,5 +1,6 @@
 pub mod Texts
 pub mod Table
+pub mod Rules
 pub mod Shapes
 pub mod Got
 pub mod Versions

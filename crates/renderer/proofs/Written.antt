@@ -1,13 +1,13 @@
 -- Laws of writing with a limit: a text written behind another is the joined text written at once.
 -- Assumes nothing.
-use mathlib.Core.Path.{◌≡◌, refl, ap, sym, ◌∙◌}
+use mathlib.Core.Path.{◌≡◌, refl, ap, ap₂, sym, ◌∙◌}
 use Prim.Native.Nat.{ℕ, zero, suc, ◌+◌, ◌-◌, ◌≤◌, ◌<◌, min}
 use native.Mathlib.Omega.{arith}
 use native.Mathlib.Numerals.{add-one}
 use mathlib.Core.Bool.{Bool, true, false, cond}
 use mathlib.Core.List.{List, [], ◌∷◌, ◌++◌}
-use lib.ListN.{length, set, take, replicate, length-set, length-take, length-drop, length-replicate}
-use lib.Seq.{sets, set_out}
+use lib.ListN.{length, get_or, set, take, drop, replicate, length-set, length-take, length-drop, length-replicate, drop_of_length-le}
+use lib.Seq.{sets, set_out, drop-cons}
 use borrow.Rule.Slice.PartMut.{put_mid, mid_of, mid_len}
 use lib.Dec.{ltb}
 use borrow.Author.Tests.{lt-ltb, le-ltb, ltb-true, ltb-false}
@@ -85,6 +85,54 @@ over_sets out at (b ∷ t) limit h =
     over_in limit out at b t (omega arith)
     ∙ ap (λ (k : ℕ). written_over limit (set out at b) k t) (add-one at)
     ∙ over_sets (set out at b) (suc at) t limit (omega arith)
+
+-- one byte more
+over_one : (limit : ℕ) (out : List ℕ) (at b : ℕ) (t : List ℕ)
+    → written_over limit (written_over limit out at (b ∷ [])) (at + 1) t ≡ written_over limit out at (b ∷ t)
+over_one limit out at b t = over_join limit out at (b ∷ []) t
+
+-- What the loop keeps: going on from here gives the whole.
+pub record Copied (limit : ℕ) (out0 : List ℕ) (at : ℕ) (t out : List ℕ) (k : ℕ) : Type 0 where
+  pub high : k ≤ length t
+  pub size : length out ≡ length out0
+  pub whole : written_over limit out (at + k) (drop k t) ≡ written_over limit out0 at t
+
+pub copied_start : (limit : ℕ) (out : List ℕ) (at : ℕ) (t : List ℕ) → Copied limit out at t out 0
+copied_start limit out at t = record { high = omega arith; size = refl; whole = ap (λ (a : ℕ). written_over limit out a t) (zero_off at) }
+  where
+    zero_off : (at : ℕ) → at + 0 ≡ at
+    zero_off at = omega arith
+
+pub copied_more : (limit : ℕ) (out0 : List ℕ) (at : ℕ) (t out : List ℕ) (k b : ℕ) → Copied limit out0 at t out k → k < length t → at + k < limit
+    → b ≡ get_or t k 0
+    → Copied limit out0 at t (set out (at + k) b) (k + 1)
+copied_more limit out0 at t out k b s h l q =
+    record {
+      high = omega arith;
+      size = length-set out (at + k) b ∙ s.size;
+      whole =
+          ap₂ (λ (o : List ℕ) (a : ℕ). written_over limit o a (drop (k + 1) t)) (emit_in limit out (at + k) b l) (along at k)
+          ∙ over_one limit out (at + k) b (drop (k + 1) t)
+          ∙ ap (written_over limit out (at + k)) (rw (q, add-one k) (sym (drop-cons t k 0 h)))
+          ∙ s.whole;
+    }
+  where
+    along : (at k : ℕ) → at + (k + 1) ≡ at + k + 1
+    along at k = omega arith
+
+copied_end : (limit : ℕ) (out0 : List ℕ) (at : ℕ) (t out : List ℕ) (k : ℕ) → Copied limit out0 at t out k → length t ≤ k
+    → out ≡ written_over limit out0 at t
+unfolding written_over
+copied_end limit out0 at t out k s h = ap (written_over limit out (at + k)) (sym (drop_of_length-le t h)) ∙ s.whole
+
+-- the part that has room, byte by byte, is all that is written of the text
+pub copied_part : (out0 : List ℕ) (at : ℕ) (t out : List ℕ) (room k : ℕ) → at < length out0 → room ≡ min (length t) (length out0 - at)
+    → Copied (length out0) out0 at (take room t) out k → room ≤ k
+    → out ≡ written_over (length out0) out0 at t
+copied_part out0 at t out room k h e s l =
+    let n = length-take room t in
+    copied_end (length out0) out0 at (take room t) out k s (omega arith)
+    ∙ over_below (length out0) (length out0) out0 at t room (omega arith) e
 
 -- the part of a text that has room is written at once
 pub part_written : (out : List ℕ) (at : ℕ) (t part : List ℕ) (room : ℕ) → at < length out → room ≡ min (length t) (length out - at)

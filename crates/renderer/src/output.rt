@@ -22,12 +22,15 @@ pub(crate) fn spaces(out: &mut [u8], at: usize, n: usize)
 }
 
 // Writes a text.
-// kept: writer's `set_all` is its twin, and no crate with code is below both.
+// kept: writer's `set_all` is its twin, and no crate with code is below both. Its bytes go one by one: `copy_from_slice` is the C library's
+// `memmove`, and the functions for other languages need none.
 pub(crate) fn copy(out: &mut [u8], at: usize, text: &[u8])
     ensures { out.new ≡ written_over (length out.old) out.old at text.now }
 {
     if at < out.len() {
         let room = text.len().min(out.len() - at);
-        out[at..at + room].copy_from_slice(&text[..room]);
+        for k in 0..room {
+            out[at + k] = text[k];
+        }
     }
 }

@@ -23,10 +23,10 @@ pub(crate) fn calls(rt: &impl Print, answers: &[u8]) {
         counts: &mut counts,
     };
     let c = replay(rt, answers, |answers| replay_case(answers, &mut buffers));
-    show_counts(rt, "layout calls", &counts[..ANSWERS]);
-    show_counts(rt, "rendering calls", &counts[ANSWERS..BEFORE_ARCHIVE]);
-    show_counts(rt, "archive layout calls", &counts[BEFORE_ARCHIVE..]);
-    show_end(rt, "lists", c);
+    show_counts(rt, b"layout calls", &counts[..ANSWERS]);
+    show_counts(rt, b"rendering calls", &counts[ANSWERS..BEFORE_ARCHIVE]);
+    show_counts(rt, b"archive layout calls", &counts[BEFORE_ARCHIVE..]);
+    show_end(rt, b"lists", c);
 }
 
 // Lists of steps. The source is blanks, as many as one may have: the spans and comments of every stored list fit them.
@@ -42,8 +42,8 @@ pub(crate) fn steps(rt: &impl Print, answers: &[u8]) {
         counts: &mut counts,
     };
     let c = replay(rt, answers, |answers| replay_list(answers, &mut buffers));
-    show_counts(rt, "lists of steps", &counts);
-    show_end(rt, "lists of steps", c);
+    show_counts(rt, b"lists of steps", &counts);
+    show_end(rt, b"lists of steps", c);
 }
 
 // Moves of images between versions.
@@ -57,15 +57,15 @@ pub(crate) fn moves(rt: &impl Print, answers: &[u8]) {
         counts: &mut counts,
     };
     let c = replay(rt, answers, |answers| replay_move(answers, &mut buffers));
-    show_counts(rt, "moves", &counts);
-    show_end(rt, "moves", c);
+    show_counts(rt, b"moves", &counts);
+    show_end(rt, b"moves", c);
 }
 
 // Trees that may be read back differently.
 pub(crate) fn verdicts(rt: &impl Print, answers: &[u8]) {
     let mut counts = [0usize; 9];
     let c = replay(rt, answers, |answers| replay_verdict(answers, &mut counts));
-    show_counts(rt, "verdicts", &counts[..VERDICTS]);
-    show_counts(rt, "verdicts of no", &counts[VERDICTS..]);
-    show_end(rt, "verdicts", c);
+    show_counts(rt, b"verdicts", &counts[..VERDICTS]);
+    show_counts(rt, b"verdicts of no", &counts[VERDICTS..]);
+    show_end(rt, b"verdicts", c);
 }

@@ -15,12 +15,12 @@ use stored_answers::group::{ROOM, filled, read};
 // kept: which groups there are is all that it says; a function over a table of them would be no plainer.
 fn main(rt: HostRuntime) {
     let mut input: [u8; ROOM] = filled(0);
-    let n = read(&rt, "calls", &mut input);
+    let n = read(&rt, b"calls", &mut input);
     groups::calls(&rt, &input[..n]);
-    let n = read(&rt, "steps", &mut input);
+    let n = read(&rt, b"steps", &mut input);
     groups::steps(&rt, &input[..n]);
-    let n = read(&rt, "moves", &mut input);
+    let n = read(&rt, b"moves", &mut input);
     groups::moves(&rt, &input[..n]);
-    let n = read(&rt, "verdicts", &mut input);
+    let n = read(&rt, b"verdicts", &mut input);
     groups::verdicts(&rt, &input[..n]);
 }

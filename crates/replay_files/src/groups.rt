@@ -20,9 +20,9 @@ pub(crate) fn frames(rt: &impl Print, answers: &[u8]) {
         archived: &mut archived,
     };
     let c = replay(rt, answers, |answers| replay_frame(answers, &mut buffers));
-    show_counts(rt, "frames", &counts);
-    show_counts(rt, "archived frames", &archived);
-    show_end(rt, "frames", c);
+    show_counts(rt, b"frames", &counts);
+    show_counts(rt, b"archived frames", &archived);
+    show_end(rt, b"frames", c);
 }
 
 // Batches of files.
@@ -34,7 +34,7 @@ pub(crate) fn batches(rt: &impl Print, answers: &[u8]) {
         batches: &mut batches,
     };
     let c = replay(rt, answers, |answers| replay_batch(answers, &mut counts));
-    show_counts(rt, "files", &files);
-    show_counts(rt, "batches", &batches);
-    show_end(rt, "batches", c);
+    show_counts(rt, b"files", &files);
+    show_counts(rt, b"batches", &batches);
+    show_end(rt, b"batches", c);
 }

@@ -19,8 +19,8 @@ use stored_answers::group::{ROOM, filled, read};
 // kept: which groups there are is all that it says; a function over a table of them would be no plainer.
 fn main(rt: HostRuntime) {
     let mut input: [u8; ROOM] = filled(0);
-    let n = read(&rt, "frames", &mut input);
+    let n = read(&rt, b"frames", &mut input);
     groups::frames(&rt, &input[..n]);
-    let n = read(&rt, "batches", &mut input);
+    let n = read(&rt, b"batches", &mut input);
     groups::batches(&rt, &input[..n]);
 }

@@ -9,7 +9,7 @@ use stored_answers::report::{replay, show_counts, show_end};
 
 fn main(rt: HostRuntime) {
     let mut input: [u8; ROOM] = filled(0);
-    let n = read(&rt, "formulas", &mut input);
+    let n = read(&rt, b"formulas", &mut input);
     let mut image: [u8; 512] = filled(0);
     let mut counts = [0usize; 25];
     let mut buffers = Buffers {
@@ -19,6 +19,6 @@ fn main(rt: HostRuntime) {
     let c = replay(&rt, &input[..n], |answers| {
         replay_formula(answers, &mut buffers)
     });
-    show_counts(&rt, "formulas", &counts);
-    show_end(&rt, "formulas", c);
+    show_counts(&rt, b"formulas", &counts);
+    show_end(&rt, b"formulas", c);
 }

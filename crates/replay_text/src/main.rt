@@ -20,11 +20,11 @@ const ROOM: usize = 1048576;
 
 fn replay(rt: &impl Print, answers: &[u8]) {
     let one = strings(rt, Reader { answers, place: 0 });
-    show_end(rt, "strings of one and two bytes", one.end());
+    show_end(rt, b"strings of one and two bytes", one.end());
     let two = spaces(rt, one.answers);
-    show_end(rt, "white space of code points", two.end());
+    show_end(rt, b"white space of code points", two.end());
     let three = samples(rt, two.answers);
-    show_end(rt, "answers about samples", three.end());
+    show_end(rt, b"answers about samples", three.end());
     if three.answers.place < answers.len() {
         let _ = println!(rt; "bytes are left over");
     }

@@ -1,6 +1,6 @@
 -- What the report makes of its files, one after another: the line of each, and what it holds after them. proofs/Accounts.antt proves the claim at
 -- the end.
-use Rattle.std.specs.Prelude.{◌≡◌, Bool, true, false, List, [], ◌∷◌, ℕ, ◌+◌, ◌-◌, ◌≤◌, ◌<◌, length, take, Option, None, Some, Result, Ok, Err}
+use Rattle.std.specs.Prelude.{◌≡◌, Bool, true, false, List, [], ◌∷◌, ℕ, ◌+◌, ◌-◌, ◌≤◌, ◌<◌, length, take, Option, None, Some, Result, Ok, Err, is_err}
 use Rattle.refusals.specs.Answers.{Answer, refused, accepted}
 use Rattle.tallies.specs.Tallies.{fresh_tallies}
 use Rattle.figures.specs.Figures.{CountResult, count_answer}
@@ -94,6 +94,8 @@ is_whole (Ok (Some bytes)) = true
 pub data Stops (r : Ended) : Type 0 where
   -- no whole file came
   input_ended : is_whole r.came ≡ false → Stops r
+  -- a line could not be written
+  unwritten : is_err r.written ≡ true → Stops r
   -- no further file can be numbered
   most_files : r.progress.files ≡ LAST_FILE → Stops r
 

@@ -3,7 +3,8 @@
 
 mod progress;
 
-ghost use Rattle.std.specs.Prelude.{◌≡◌, length, IfOk};
+ghost use Rattle.std.specs.Prelude.{◌≡◌, length};
+ghost use Rattle.report.specs.Front.{SOURCE_KEPT as KEPT_OF_SOURCE, IMAGE_KEPT as KEPT_OF_IMAGE};
 ghost use Rattle.report.specs.Report.{Fed};
 
 use feed::{Cut, IMAGE_KEPT, LENGTHS, SOURCE_KEPT, read_file};
@@ -15,11 +16,12 @@ use std::io::Read;
 // A proved loop has to end, and nothing says that an input does: no input has as many files.
 const FILES: usize = usize::MAX;
 
-// What is held after the last file, and what came behind it.
-#[derive(Clone, Copy)]
+// What is held after the last file, what came behind it, and whether the last line was written.
+#[derive(Drop)]
 struct Ended {
     progress: Progress,
     came: Result<Option<usize>, Cut>,
+    written: io::Result<()>,
 }
 
 // Room for so many bytes. A caller knows no more of it than its length.
@@ -29,29 +31,35 @@ fn room<const N: usize>() -> [u8; N]
     [0; N]
 }
 
-// Takes the files one after another, and writes their lines, until the input ends.
-fn take_files<R: Read>(
-    rt: &impl Print,
-    input: &mut R,
-    source: &mut [u8],
-    image: &mut [u8],
-) -> io::Result<Ended>
-    ensures { IfOk result Fed }
+// Takes the files one after another, and writes their lines, until the input ends or a line can't be written. Of a source and an image it keeps
+// what is enough (specs/Front.antt).
+fn take_files<R: Read>(rt: &impl Print, input: &mut R, source: &mut [u8], image: &mut [u8]) -> Ended
+    requires source_room { KEPT_OF_SOURCE ≡ length source.old }
+    requires image_room { KEPT_OF_IMAGE ≡ length image.old }
+    ensures { Fed result }
 {
     let mut lengths = [0u8; LENGTHS];
     let mut progress = Progress::default();
     let mut came = Ok(None);
+    let mut written = Ok(());
     // kept: the files are counted in what is held; a range would count them a second time.
     while progress.files < FILES {
         came = read_file(input, &mut lengths, source, image);
         let turn = take_next(came, &lengths, source, image, progress);
         progress = turn.progress;
-        rt.write_all(turn.line.as_str().as_bytes())?;
+        written = rt.write_all(turn.line.as_str().as_bytes());
+        if written.is_err() {
+            break;
+        }
         let Ok(Some(_)) = came else {
             break;
         };
     }
-    Ok(Ended { progress, came })
+    Ended {
+        progress,
+        came,
+        written,
+    }
 }
 
 // Writes the whole table.
@@ -59,7 +67,9 @@ fn report<R: Read>(rt: &impl Print, input: &mut R) -> io::Result<()> {
     let mut source: [u8; SOURCE_KEPT] = room();
     let mut image: [u8; IMAGE_KEPT] = room();
     rt.write_all(heads_line().as_bytes())?;
-    let held = take_files(rt, input, &mut source, &mut image)?.progress;
+    let end = take_files(rt, input, &mut source, &mut image);
+    end.written?;
+    let held = end.progress;
     rt.write_all(last_lines(held.tallies, held.refused).as_str().as_bytes())
 }
 

@@ -42,7 +42,7 @@ fn count_next(source: &[u8], image: &[u8], p: Progress) -> Turn
                 refused: p.refused + 1,
                 ..p
             },
-            line: refused_file_line(files, refused),
+            line: refused_file_line(files, refused.number(), refused.place),
         },
     }
 }

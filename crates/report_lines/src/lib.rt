@@ -5,14 +5,12 @@ mod cells;
 
 ghost use Rattle.std.specs.Prelude.{◌≡◌, length, ◌+◌, ◌≤◌, ◌<◌, ◌++◌};
 ghost use Rattle.rows.specs.Ascii.{bytes};
-ghost use Rattle.refusals.specs.Reasons.{refusal};
 ghost use Rattle.lines.specs.Lines.{decimal};
 ghost use Rattle.report_lines.specs.Table.{heads_line, file_line, refused_file_line, ends_inside_line, totals_line, fraction_line, last_lines};
 
 use crate::cells::{FIGURES_ROOM, put_cell, put_figures, put_number};
 use arrayvec::ArrayString;
 use lines::{DIGITS, REFUSED_ROOM, put_decimal, refused_line};
-use refusals::Refused;
 use tallies::lowest::reduced;
 use tallies::{Figures, Fraction, Tallies};
 
@@ -54,13 +52,13 @@ pub fn file_line(file: usize, f: Figures) -> Line
 
 /// The line of a refused file.
 #[tactic(auto, unfolding(rows::specs::Ascii::bytes))]
-pub fn refused_file_line(file: usize, refused: Refused) -> Line
-    ensures { result.bytes ≡ refused_file_line file (refusal refused) }
+pub fn refused_file_line(file: usize, number: u8, place: usize) -> Line
+    ensures { result.bytes ≡ refused_file_line file (record { number = number; place = place }) }
 {
     let mut line = Line::new();
     put_number(&mut line, file);
     line.push(' ');
-    line.push_str(refused_line(refused).as_str());
+    line.push_str(refused_line(number, place).as_str());
     line
 }
 
@@ -73,7 +71,7 @@ fn put_count(line: &mut Line, words: &str, n: usize)
     ensures len { length line.new.bytes ≤ length line.old.bytes + WORDS_ROOM }
 {
     line.push_str(words);
-    put_decimal(line, n);
+    put_decimal(line, n, DIGITS);
     line.push('\n');
 }
 
@@ -107,9 +105,9 @@ fn put_fraction(line: &mut Line, q: Fraction)
     ensures len { length line.new.bytes ≤ length line.old.bytes + FRACTION_ROOM }
 {
     line.push_str("wrapped over given, reduced: ");
-    put_decimal(line, q.over);
+    put_decimal(line, q.over, DIGITS);
     line.push_str(" over ");
-    put_decimal(line, q.under);
+    put_decimal(line, q.under, DIGITS);
     line.push('\n');
 }
 

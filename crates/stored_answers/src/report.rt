@@ -61,16 +61,20 @@ pub fn replay<P: Print, F: FnMut(&mut Reader) -> Result<(), Difference>>(
     }
 }
 
-fn show_count(rt: &impl Print, what: &str, number: usize, n: usize) {
-    let _ = match (number, n) {
-        (_, 0) => Ok(()),
-        (0, _) => println!(rt; "{what} accepted: {n}"),
-        _ => println!(rt; "{what} refused with {number}: {n}"),
+// What it is of, and the rest of the line.
+fn show_count(rt: &impl Print, what: &[u8], number: usize, n: usize) {
+    if n == 0 {
+        return;
+    }
+    let _ = rt.write_all(what);
+    let _ = match number {
+        0 => println!(rt; " accepted: {n}"),
+        _ => println!(rt; " refused with {number}: {n}"),
     };
 }
 
 /// A line for each answer that was given, `accepted` or the number; how many answers that are in all.
-pub fn show_counts(rt: &impl Print, what: &str, counts: &[usize]) -> usize
+pub fn show_counts(rt: &impl Print, what: &[u8], counts: &[usize]) -> usize
     ensures { result ≡ total counts.now }
 {
     let mut all = 0;
@@ -82,10 +86,11 @@ pub fn show_counts(rt: &impl Print, what: &str, counts: &[usize]) -> usize
 }
 
 /// How many cases there are and how many differ, and whether the answers end too early; whether all is well.
-pub fn show_end(rt: &impl Print, what: &str, c: Compared) -> bool
+pub fn show_end(rt: &impl Print, what: &[u8], c: Compared) -> bool
     ensures { result ≡ all_same c }
 {
-    let _ = println!(rt; "{what}: {}", c.cases);
+    let _ = rt.write_all(what);
+    let _ = println!(rt; ": {}", c.cases);
     let _ = println!(rt; "differ: {}", c.differ);
     if c.cut {
         let _ = println!(rt; "the answers are cut off");

@@ -5,12 +5,12 @@ use mathlib.Core.List.{List, [], ◌∷◌, ◌++◌, append_assoc}
 use mathlib.Core.Logic.{◌⊎◌, inl, inr}
 use Prim.Native.Nat.{ℕ, suc, min, ◌+◌, ◌-◌, ◌/◌, ◌%◌, ◌≤◌, ◌<◌}
 use native.Mathlib.Omega.{arith}
-use lib.ListN.{length, set, take, drop, length-drop, take-append-drop}
+use native.Mathlib.Numerals.{add-one}
+use lib.ListN.{length, get_or, set, take, drop, length-set, length-drop, take-append-drop, drop_of_length-le}
 use mathlib.Core.Bool.{Bool, true, false}
 use lib.Dec.{leb}
 use borrow.Author.Tests.{leb-true, leb-false}
-use borrow.Rule.Slice.PartMut.{put_mid}
-use lib.Seq.{sets, set_comm, set_out, sets-eq, drop-drop, length-sets, length-take-le}
+use lib.Seq.{sets, set_comm, set_out, drop-cons, length-sets, length-take-le}
 use Rattle.laws.proofs.Stores.{sets_append}
 use Rattle.std.specs.Int.{w16, w32, to_be_bytes}
 use Rattle.image.specs.Write.{bytes4, bytes2}
@@ -61,17 +61,33 @@ sets_room vs s i n h e =
         go true w = let l = leb-true (s - i) v w in inr (omega arith)
         go false w = let l = leb-false (s - i) v w in inl (omega arith)
 
--- a part that is written over by one call, as far as there is room
-pub part_sets : (vs s : List ℕ) (i n : ℕ) → i ≤ length s → n ≡ min (length vs) (length s - i)
-    → put_mid i (i + n - i) s (take n vs) ≡ sets s i vs
-part_sets vs s i n h e =
-    let k : i + n - i ≡ n = omega arith in
-    let long = length-take-le n vs (omega (arith, e)) in
-    ap (λ (m : ℕ). put_mid i m s (take n vs)) k
-    ∙ ap (λ (r : List ℕ). take i s ++ (take n vs ++ r)) (drop-drop n i s ∙ ap (λ (m : ℕ). drop (i + m) s) (sym long))
-    ∙ sym (append_assoc (take i s) (take n vs) _)
-    ∙ sym (sets-eq (take n vs) s i (omega (arith, e, long)))
-    ∙ sets_room vs s i n h e
+-- Bytes that are set one by one: going on from here sets them all.
+pub record Setting (out0 : List ℕ) (pos : ℕ) (t out : List ℕ) (k : ℕ) : Type 0 where
+  pub high : k ≤ length t
+  pub size : length out ≡ length out0
+  pub whole : sets out (pos + k) (drop k t) ≡ sets out0 pos t
+
+pub setting_none : (out : List ℕ) (pos : ℕ) (t : List ℕ) → Setting out pos t out 0
+setting_none out pos t = record { high = omega arith; size = refl; whole = ap (λ (a : ℕ). sets out a t) (zero_off pos) }
+  where
+    zero_off : (at : ℕ) → at + 0 ≡ at
+    zero_off at = omega arith
+
+pub setting_one : (out0 : List ℕ) (pos : ℕ) (t out : List ℕ) (k b : ℕ) → Setting out0 pos t out k → k < length t → b ≡ get_or t k 0
+    → Setting out0 pos t (set out (pos + k) b) (k + 1)
+setting_one out0 pos t out k b s h q =
+    let next : b ∷ drop (k + 1) t ≡ drop k t = rw (q, add-one k) (sym (drop-cons t k 0 h)) in
+    record {
+      high = omega arith;
+      size = length-set out (pos + k) b ∙ s.size;
+      whole = ap (λ (a : ℕ). sets (set out (pos + k) b) a (drop (k + 1) t)) (along pos k) ∙ ap (λ (u : List ℕ). sets out (pos + k) u) next ∙ s.whole;
+    }
+  where
+    along : (at k : ℕ) → at + (k + 1) ≡ suc (at + k)
+    along at k = omega arith
+
+pub setting_all : (out0 : List ℕ) (pos : ℕ) (t out : List ℕ) (k : ℕ) → Setting out0 pos t out k → length t ≤ k → out ≡ sets out0 pos t
+setting_all out0 pos t out k s h = ap (sets out (pos + k)) (sym (drop_of_length-le t h)) ∙ s.whole
 
 -- the four bytes of a number, as std gives them
 pub four_bytes : (n : ℕ) → n < 4294967296 → to_be_bytes w32 n ≡ bytes4 n

@@ -1,5 +1,5 @@
 // Bytes put into an output.
-ghost use Rattle.std.specs.Prelude.{◌≡◌, [], ◌∷◌, ◌+◌, ◌-◌, ◌%◌, ◌<◌, ◌^◌, length, set};
+ghost use Rattle.std.specs.Prelude.{◌≡◌, [], ◌∷◌, ◌+◌, ◌-◌, ◌%◌, ◌<◌, ◌≤◌, ◌^◌, length, set, take};
 ghost use Rattle.std.proofs.lemmas.List.Edits.{sets};
 ghost use Rattle.image.specs.Write.{bytes4, bytes2};
 ghost use Rattle.writer.specs.Appends.{Appends, Sets};
@@ -14,6 +14,18 @@ fn set(out: &mut [u8], pos: usize, byte: u8)
     }
 }
 
+// Sets the first n bytes from a place on, one by one: `copy_from_slice` is the C library's `memmove`, and the functions for other languages
+// need none.
+#[inline(always)]
+fn set_front(out: &mut [u8], pos: usize, bytes: &[u8], n: usize)
+    requires { (n ≤ length bytes.now) × (pos + n ≤ length out.old) }
+    ensures { out.new ≡ sets out.old pos (take n bytes.now) }
+{
+    for k in 0..n {
+        out[pos + k] = bytes[k];
+    }
+}
+
 // Sets bytes from a place on, as far as there is room. (Made part of its callers: most give a number of bytes that is known there.)
 // kept: renderer's output.rt has the like. No crate with code lies below both, and one for this alone would be longer than the two.
 #[inline(always)]
@@ -25,9 +37,9 @@ fn set_all(out: &mut [u8], pos: usize, bytes: &[u8])
     }
     let room = out.len() - pos;
     if bytes.len() <= room {
-        out[pos..pos + bytes.len()].copy_from_slice(bytes);
+        set_front(out, pos, bytes, bytes.len());
     } else {
-        out[pos..].copy_from_slice(&bytes[..room]);
+        set_front(out, pos, bytes, room);
     }
 }
 

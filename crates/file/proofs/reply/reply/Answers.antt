@@ -1,5 +1,6 @@
 -- The text stands in the output already; a refusal left it as it was, and the line is put there.
-use Rattle.std.proofs.Common.{sym, ap, ◌∙◌, length, arith}
+use Rattle.std.proofs.Common.{sym, ap, ◌∙◌, ℕ, length, arith}
+use Rattle.lines.specs.Lines.{refused_line}
 use Rattle.file.proofs.Replied.{replied_text, replied_line}
 use Rattle.file.proofs.reply.reply.Goals as goal
 
@@ -9,5 +10,7 @@ returns-in-Ok c = replied_text _ _ (omega arith) _ _ _ c.format_frame.ensures c.
 pub returns-in-Err : goal.returns-in-Err
 returns-in-Err c =
     let line = c.copy_from_slice.ensures.after ∙ c.as_bytes.ensures.value ∙ c.as_str.ensures.value in
-    replied_line _ _ (omega arith) _ _ _ c.format_frame.ensures c.in-Err.is _ _ (line ∙ c.refused_line-line.ensures)
+    let why = c.in-Err.refused in
+    let numbered = ap (λ (n : ℕ). refused_line (record { number = n; place = why.place })) c.number.ensures in
+    replied_line _ _ (omega arith) _ _ _ c.format_frame.ensures c.in-Err.is _ _ (line ∙ c.refused_line-line.ensures ∙ numbered)
     (c.len-end.ensures.value ∙ sym (ap length line))
