@@ -26,6 +26,15 @@ fn set_front(out: &mut [u8], pos: usize, bytes: &[u8], n: usize)
     }
 }
 
+// The same where not all of them have room. (Not made part of its callers: bytes on their stack would be copied by the C library's `memcpy`.)
+#[inline(never)]
+fn set_part(out: &mut [u8], pos: usize, bytes: &[u8], n: usize)
+    requires { (n ≤ length bytes.now) × (pos + n ≤ length out.old) }
+    ensures { out.new ≡ sets out.old pos (take n bytes.now) }
+{
+    set_front(out, pos, bytes, n);
+}
+
 // Sets bytes from a place on, as far as there is room. (Made part of its callers: most give a number of bytes that is known there.)
 // kept: renderer's output.rt has the like. No crate with code lies below both, and one for this alone would be longer than the two.
 #[inline(always)]
@@ -39,7 +48,7 @@ fn set_all(out: &mut [u8], pos: usize, bytes: &[u8])
     if bytes.len() <= room {
         set_front(out, pos, bytes, bytes.len());
     } else {
-        set_front(out, pos, bytes, room);
+        set_part(out, pos, bytes, room);
     }
 }
 

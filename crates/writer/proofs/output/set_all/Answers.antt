@@ -17,5 +17,5 @@ returns-then-bytes-room c =
 pub returns-else-bytes-room : goal.returns-else-bytes-room
 returns-else-bytes-room c =
     let n = length c.args.out.now - c.args.pos in
-    c.set_front-else-bytes-room.ensures
+    c.set_part.ensures
     ∙ sets_room c.args.bytes.now c.args.out.now c.args.pos n (omega (arith, c.if-out-pos.false)) (omega (arith, c.if-bytes-room.false))
