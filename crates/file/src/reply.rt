@@ -2,7 +2,7 @@
 ghost use Rattle.file.specs.Reply.{Replies};
 
 use crate::format_frame;
-use lines::refused_line;
+use lines::refused_line_of;
 
 /// Puts the text of the frame's file, or the line that refuses it, at the start of the output; how many bytes that is.
 pub fn reply(frame: &[u8], out: &mut [u8; 65536]) -> usize
@@ -11,7 +11,7 @@ pub fn reply(frame: &[u8], out: &mut [u8; 65536]) -> usize
     match format_frame(frame, out) {
         Ok(text) => text.bytes.0,
         Err(refused) => {
-            let line = refused_line(refused.number(), refused.place);
+            let line = refused_line_of(refused.number(), refused.place);
             let end = line.len();
             out[..end].copy_from_slice(line.as_str().as_bytes());
             end

@@ -3,7 +3,7 @@ ghost use Rattle.report.specs.Report.{answer_to, GoesOn, TakesBy, TakesNext};
 
 use feed::{Cut, LENGTHS, image_kept, source_kept};
 use figures::count_file;
-use report_lines::{Line, ends_inside_line, file_line, refused_file_line};
+use report_lines::{Line, ends_inside_line, file_line, refused_file_line_of};
 use tallies::Tallies;
 
 // The files read so far, how many of them were refused, and the tallies over the others.
@@ -42,7 +42,7 @@ fn count_next(source: &[u8], image: &[u8], p: Progress) -> Turn
                 refused: p.refused + 1,
                 ..p
             },
-            line: refused_file_line(files, refused.number(), refused.place),
+            line: refused_file_line_of(files, refused.number(), refused.place),
         },
     }
 }

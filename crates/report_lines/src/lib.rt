@@ -5,12 +5,14 @@ mod cells;
 
 ghost use Rattle.std.specs.Prelude.{◌≡◌, length, ◌+◌, ◌≤◌, ◌<◌, ◌++◌};
 ghost use Rattle.rows.specs.Ascii.{bytes};
+ghost use Rattle.refusals.specs.Reasons.{refusal};
 ghost use Rattle.lines.specs.Lines.{decimal};
 ghost use Rattle.report_lines.specs.Table.{heads_line, file_line, refused_file_line, ends_inside_line, totals_line, fraction_line, last_lines};
 
 use crate::cells::{FIGURES_ROOM, put_cell, put_figures, put_number};
 use arrayvec::ArrayString;
-use lines::{DIGITS, REFUSED_ROOM, put_decimal, refused_line};
+use lines::{DIGITS, REFUSED_ROOM, put_decimal_in, refused_line_of};
+use refusals::Refused;
 use tallies::lowest::reduced;
 use tallies::{Figures, Fraction, Tallies};
 
@@ -50,16 +52,23 @@ pub fn file_line(file: usize, f: Figures) -> Line
     line
 }
 
-/// The line of a refused file.
+/// The line of a refused file, of the refusal's number and place.
 #[tactic(auto, unfolding(rows::specs::Ascii::bytes))]
-pub fn refused_file_line(file: usize, number: u8, place: usize) -> Line
+pub fn refused_file_line_of(file: usize, number: u8, place: usize) -> Line
     ensures { result.bytes ≡ refused_file_line file (record { number = number; place = place }) }
 {
     let mut line = Line::new();
     put_number(&mut line, file);
     line.push(' ');
-    line.push_str(refused_line(number, place).as_str());
+    line.push_str(refused_line_of(number, place).as_str());
     line
+}
+
+/// The line of a refused file.
+pub fn refused_file_line(file: usize, refused: Refused) -> Line
+    ensures { result.bytes ≡ refused_file_line file (refusal refused) }
+{
+    refused_file_line_of(file, refused.number(), refused.place)
 }
 
 // Appends words, a number and a newline.
@@ -71,7 +80,7 @@ fn put_count(line: &mut Line, words: &str, n: usize)
     ensures len { length line.new.bytes ≤ length line.old.bytes + WORDS_ROOM }
 {
     line.push_str(words);
-    put_decimal(line, n, DIGITS);
+    put_decimal_in(line, n, DIGITS);
     line.push('\n');
 }
 
@@ -105,9 +114,9 @@ fn put_fraction(line: &mut Line, q: Fraction)
     ensures len { length line.new.bytes ≤ length line.old.bytes + FRACTION_ROOM }
 {
     line.push_str("wrapped over given, reduced: ");
-    put_decimal(line, q.over, DIGITS);
+    put_decimal_in(line, q.over, DIGITS);
     line.push_str(" over ");
-    put_decimal(line, q.under, DIGITS);
+    put_decimal_in(line, q.under, DIGITS);
     line.push('\n');
 }
 
@@ -122,4 +131,19 @@ pub fn last_lines(t: Tallies, refused: usize) -> Line
     put_count(&mut lines, "files refused: ", refused);
     put_fraction(&mut lines, reduced(t.all.wrapped, t.all.given));
     lines
+}
+
+#[cfg(test)]
+mod tests {
+    use super::*;
+    use refusals::Reason;
+
+    // docs/REPORT.md: the file's number in ten columns, a blank, and the program's line.
+    #[test]
+    fn writes_refused_files(rt: HostRuntime) {
+        assert_eq!(rt;
+            refused_file_line(7, Reason::Frame.at(0)).as_str(),
+            "         7 refused 13 at 0\n"
+        );
+    }
 }

@@ -10,7 +10,8 @@ use lib.ListN.{length, get_or, set, take, drop, length-set, length-drop, take-ap
 use mathlib.Core.Bool.{Bool, true, false}
 use lib.Dec.{leb}
 use borrow.Author.Tests.{leb-true, leb-false}
-use lib.Seq.{sets, set_comm, set_out, drop-cons, length-sets, length-take-le}
+use borrow.Rule.Slice.PartMut.{put_mid}
+use lib.Seq.{sets, set_comm, set_out, sets-eq, drop-cons, drop-drop, length-sets, length-take-le}
 use Rattle.laws.proofs.Stores.{sets_append}
 use Rattle.std.specs.Int.{w16, w32, to_be_bytes}
 use Rattle.image.specs.Write.{bytes4, bytes2}
@@ -60,6 +61,18 @@ sets_room vs s i n h e =
         go : (b : Bool) → leb (s - i) v ≡ b → (d ≡ 0) ⊎ (u ≤ i + t)
         go true w = let l = leb-true (s - i) v w in inr (omega arith)
         go false w = let l = leb-false (s - i) v w in inl (omega arith)
+
+-- a part that is written over by one call, as far as there is room
+pub part_sets : (vs s : List ℕ) (i n : ℕ) → i ≤ length s → n ≡ min (length vs) (length s - i)
+    → put_mid i (i + n - i) s (take n vs) ≡ sets s i vs
+part_sets vs s i n h e =
+    let k : i + n - i ≡ n = omega arith in
+    let long = length-take-le n vs (omega (arith, e)) in
+    ap (λ (m : ℕ). put_mid i m s (take n vs)) k
+    ∙ ap (λ (r : List ℕ). take i s ++ (take n vs ++ r)) (drop-drop n i s ∙ ap (λ (m : ℕ). drop (i + m) s) (sym long))
+    ∙ sym (append_assoc (take i s) (take n vs) _)
+    ∙ sym (sets-eq (take n vs) s i (omega (arith, e, long)))
+    ∙ sets_room vs s i n h e
 
 -- Bytes that are set one by one: going on from here sets them all.
 pub record Setting (out0 : List ℕ) (pos : ℕ) (t out : List ℕ) (k : ℕ) : Type 0 where

@@ -12,5 +12,5 @@ returns-in-Err c =
     let line = c.copy_from_slice.ensures.after ∙ c.as_bytes.ensures.value ∙ c.as_str.ensures.value in
     let why = c.in-Err.refused in
     let numbered = ap (λ (n : ℕ). refused_line (record { number = n; place = why.place })) c.number.ensures in
-    replied_line _ _ (omega arith) _ _ _ c.format_frame.ensures c.in-Err.is _ _ (line ∙ c.refused_line-line.ensures ∙ numbered)
+    replied_line _ _ (omega arith) _ _ _ c.format_frame.ensures c.in-Err.is _ _ (line ∙ c.refused_line_of-line.ensures ∙ numbered)
     (c.len-end.ensures.value ∙ sym (ap length line))
